@@ -19,7 +19,7 @@ use Rattle.run_verifier.specs.Refusals.{refusal}
 use Rattle.linked_text.specs.LinkEffects.{plain_told}
 use Rattle.linked_text.specs.LinkLines.{Content}
 use Rattle.linked_exchange.specs.InTurn.{EachInTurn, MovesFewInTurn, follows_in_turn, setting_in_turn, story_in_turn, world_in_turn}
-pub use Rattle.linked_exchange.specs.Told.{max_line, max_lines, follows, EachFollows, setting_said, world_said, MovesFewIn, MovesFewSaid, steps_said, story_by, story_said}
+pub use Rattle.linked_exchange.specs.Told.{max_lines, follows, EachFollows, setting_said, world_said, MovesFewIn, MovesFewSaid, steps_said, story_by, story_said}
 
 -- ---- the facts about lines that were followed
 

@@ -1,9 +1,9 @@
 -- The lines of an input of which a prefix was read.
 use Rattle.std.proofs.Common.{◌≡◌, ◌⊎◌, ◌<◌, ℕ, Bool, true, false, eqb, List, [], ◌∷◌, ◌++◌, length, refl, sym, ap, subst, ◌∙◌, arith, inl, inr, append_assoc, append-nil, length-append}
 use Rattle.std.specs.List.{onto_first}
-use Rattle.trace_text.specs.TraceWords.{AreEnded, lines}
+use Rattle.trace_text.specs.TraceWords.{AreEnded, lines, max_line_len}
 use Rattle.trace_text.proofs.LineLemmas.{first_step, lines_behind}
-use Rattle.line_wire.specs.Following.{AreFirst, EndsLong, max_line}
+use Rattle.line_wire.specs.Following.{AreFirst, EndsLong}
 
 -- ---- the last of some lines
 
@@ -94,7 +94,7 @@ pub record IsInInput (bytes : List ℕ) (before : List (List ℕ)) (line : List 
   pub row : List ℕ
   pub others : List (List ℕ)
   pub are : lines bytes ≡ before ++ row ∷ others
-  pub same : (row ≡ line) ⊎ ((max_line < length line) × (max_line < length row))
+  pub same : (row ≡ line) ⊎ ((max_line_len < length line) × (max_line_len < length row))
 
 module _ (bytes heard left : List ℕ) (before : List (List ℕ)) (line : List ℕ) (all : bytes ≡ heard ++ left) (a : AreFirst (left ≡ []) heard (before ++ line ∷ [])) where
   bytes_are : bytes ≡ a.whole ++ (a.rest ++ left)
@@ -109,7 +109,7 @@ module _ (bytes heard left : List ℕ) (before : List (List ℕ)) (line : List �
   }
   at_end none (inr (front, last, is, long)) =
       let on = goes_on a.whole (a.rest ++ left) before line (sym a.are) in
-      let longer : max_line < length line = subst (λ (l : List ℕ). max_line < length l) (sym (same_last before front line last is)) long in
+      let longer : max_line_len < length line = subst (λ (l : List ℕ). max_line_len < length l) (sym (same_last before front line last is)) long in
       record {
         row = line ++ on.rest;
         others = on.others;

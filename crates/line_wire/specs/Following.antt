@@ -1,7 +1,7 @@
 -- The lines of an input that is read in parts, and the octets that are due for them. Source: this project.
 use Rattle.std.specs.Prelude.{◌≡◌, ◌≢◌, ◌⊎◌, ◌≤◌, ◌<◌, ℕ, List, [], ◌∷◌, ◌++◌, length, All}
 use Rattle.ex_io.specs.Ends.{Rose}
-use Rattle.trace_text.specs.TraceWords.{AreEnded, lines}
+use Rattle.trace_text.specs.TraceWords.{AreEnded, lines, max_line_len}
 use Rattle.line_wire.specs.declared.following.Following.{Following}
 use Rattle.line_wire.specs.declared.following.Following.TheVariants as ended
 
@@ -41,13 +41,9 @@ pub record IsSettled (answers : Due) (heard said : List ℕ) : Type 0 where
 abbrev pub buffer_octets : ℕ
 buffer_octets = 131072
 
--- the maximum number of octets in a line
-abbrev pub max_line : ℕ
-max_line = 65535
-
 -- the last of these lines has too many octets
 abbrev pub EndsLong : List (List ℕ) → Type 0
-EndsLong front = (before : List (List ℕ)) × (line : List ℕ) × (front ≡ before ++ line ∷ []) × (max_line < length line)
+EndsLong front = (before : List (List ℕ)) × (line : List ℕ) × (front ≡ before ++ line ∷ []) × (max_line_len < length line)
 
 -- These are the first lines of an input, and the octets after them fit in the buffer. The last line has its line feed,
 -- unless the input has ended or the line is too long.

@@ -19,12 +19,12 @@ use Rattle.meters.proofs.Placed.{changes-none}
 use Rattle.trace_text.specs.declared.said.Said.{Said}
 use Rattle.trace_text.specs.declared.said.Said.TheVariants.{Nothing, Header, Numbered, Toned, Timed, Happens, Sync, Change}
 use Rattle.trace_text.specs.declared.said.Sizes.{Sizes}
-use Rattle.trace_text.specs.TraceWords.{lines}
+use Rattle.trace_text.specs.TraceWords.{lines, max_line_len}
 use Rattle.trace_text.specs.TraceGrammar.{IsTrace, IsWhatLinesSay, changes_after, events_in}
 use Rattle.circuit_model.specs.Hears.{Plays}
 use Rattle.circuit_model.proofs.Slots.{true_or_false}
 use Rattle.tone_rules.specs.Tables.{table_of}
-use Rattle.linked_exchange.specs.Told.{EachFollows, max_line, setting_said, steps_said, story_by, story_said}
+use Rattle.linked_exchange.specs.Told.{EachFollows, setting_said, steps_said, story_by, story_said}
 use Rattle.report_lines.specs.declared.listing.Listing.TheVariants as listing
 use Rattle.linked_exchange.specs.Story.{event_steps, story}
 use Rattle.linked_exchange.proofs.FollowedLines.{each_followed, each_same}
@@ -158,7 +158,7 @@ lines_few (octet ∷ octets) =
       | inr other ↦ rw other (let few = first_few octet (lines octets) (length octets) rest in omega (arith, few))
     ]
 
-pub trace_followed : (bytes : List ℕ) (t : Trace) → IsTrace bytes t → All (λ line. length line ≤ max_line) (lines bytes)
+pub trace_followed : (bytes : List ℕ) (t : Trace) → IsTrace bytes t → All (λ line. length line ≤ max_line_len) (lines bytes)
     → (told : List Said) × EachFollows [] (lines bytes) told × IsWhatLinesSay t told
 trace_followed bytes t is short =
     let few = lines_few bytes in

@@ -10,13 +10,13 @@ use Rattle.report_lines.specs.declared.listing.Listing.TheVariants.{Report}
 use Rattle.trace_text.specs.declared.said.Said.{Said}
 use Rattle.trace_text.specs.TraceGrammar.{IsTrace}
 use Rattle.trace_text.specs.TraceLines.{SoFar, line_limits, says}
-use Rattle.trace_text.specs.TraceWords.{lines}
+use Rattle.trace_text.specs.TraceWords.{lines, max_line_len}
 use Rattle.trace_text.proofs.SoundLemmas.{passed_first}
 use Rattle.linked_text.specs.declared.said.LinkSaid.{LinkSaid}
 use Rattle.linked_text.specs.LinkEffects.{in_turn, linked_in, plain_told}
 use Rattle.linked_text.specs.LinkLines.{Content, LinkSoFar, On_link, Plain, joins_link, link_said, plain_of, says_by}
 use Rattle.linked_text.proofs.PlainLineLemmas.{read_plainly, same_plain, so_far_plain, unlinked_plain}
-use Rattle.linked_exchange.specs.Told.{EachFollows, follows, max_line, story_said}
+use Rattle.linked_exchange.specs.Told.{EachFollows, follows, story_said}
 use Rattle.linked_exchange.specs.InTurn.{ArePlain, EachInTurn, IsPlain, follows_in_turn, story_by_links, story_in_turn}
 use Rattle.linked_exchange.specs.Story.{story}
 use Rattle.linked_exchange.proofs.FollowedLines as plainly
@@ -113,7 +113,7 @@ are_plain : (told : List Said) → ArePlain (map Plain told)
 are_plain [] = All-nil IsPlain
 are_plain (said ∷ told) = All-cons IsPlain (Plain said) (map Plain told) tt (are_plain told)
 
-pub trace_in_turn : (plays : Plays) (slots : ℕ) (bytes : List ℕ) (t : Trace) → IsTrace bytes t → All (λ line. length line ≤ max_line) (lines bytes)
+pub trace_in_turn : (plays : Plays) (slots : ℕ) (bytes : List ℕ) (t : Trace) → IsTrace bytes t → All (λ line. length line ≤ max_line_len) (lines bytes)
     → (told : List Content) × ArePlain told × EachInTurn [] (lines bytes) told × (story_in_turn plays slots told ≡ story plays Report slots t (file_order (length t.events)))
 trace_in_turn plays slots bytes t is short =
     let (told, meets, what) = trace_followed bytes t is short in

@@ -13,13 +13,14 @@ use Rattle.trace_text.specs.declared.fault.Reason.TheVariants as reason
 use Rattle.trace_text.specs.declared.said.Sizes.{Sizes}
 use Rattle.trace_text.specs.TraceGrammar.{events_in, sizes_in}
 use Rattle.trace_text.specs.TraceLines.{line_limits}
+use Rattle.trace_text.specs.TraceWords.{max_line_len}
 use Rattle.linked_exchange.specs.Runs.{derived_trace, joint_after_all, start_joint}
 use Rattle.linked_exchange.specs.Steps.{Joint}
 use Rattle.linked_text.specs.LinkEffects.{in_turn, link_row, link_timers_in, link_timers_of, linked_in, plain_told}
 use Rattle.linked_text.specs.LinkLines.{Content, Plain, says_in_turn}
 use Rattle.linked_text.specs.LinkTimers.{link_timers_by}
 use Rattle.linked_exchange.specs.LinkedStory.{inputs_in, linked_steps}
-use Rattle.linked_exchange.specs.Told.{MovesFewIn, max_line, max_lines, setting_said, story_said}
+use Rattle.linked_exchange.specs.Told.{MovesFewIn, max_lines, setting_said, story_said}
 
 -- ---- lines that follow one another
 
@@ -27,7 +28,7 @@ use Rattle.linked_exchange.specs.Told.{MovesFewIn, max_line, max_lines, setting_
 -- it, or a check of it fails
 abbrev pub follows_in_turn : List Content → List ℕ → Result Content Reason
 follows_in_turn told line =
-    if nat_lt max_line (length line) then Err reason.Limit
+    if nat_lt max_line_len (length line) then Err reason.Limit
     else if nat_lt (length told) max_lines then says_in_turn line_limits (in_turn told) line
     else Err reason.Limit
 

@@ -18,12 +18,9 @@ use Rattle.trace_text.specs.declared.said.Sizes.{Sizes}
 use Rattle.trace_text.specs.TraceGrammar.{events_in, numbers_in, plan_of, sizes_in, so_far, timers_in, timers_of, tones_in, tones_of}
 use Rattle.trace_text.specs.TraceLines.{line_limits, says}
 use Rattle.trace_text.specs.TraceTimers.{timers_by}
+use Rattle.trace_text.specs.TraceWords.{max_line_len}
 
 -- ---- lines that follow one another
-
--- the maximum number of octets in a line
-abbrev pub max_line : ℕ
-max_line = 65535
 
 -- the maximum number of lines
 abbrev pub max_lines : ℕ
@@ -33,7 +30,7 @@ max_lines = 4294967294
 -- there are too many lines before it, or a check of it fails
 abbrev pub follows : List Said → List ℕ → Result Said Reason
 follows told line =
-    if nat_lt max_line (length line) then Err reason.Limit
+    if nat_lt max_line_len (length line) then Err reason.Limit
     else if nat_lt (length told) max_lines then says line_limits (so_far told) line
     else Err reason.Limit
 

@@ -14,6 +14,10 @@ lines (octet ∷ octets) = if octet == 10 then [] ∷ lines octets else onto_fir
 abbrev pub AreEnded : List ℕ → Type 0
 AreEnded octets = (octets ≡ []) ⊎ ((front : List ℕ) × (octets ≡ front ++ 10 ∷ []))
 
+-- the maximum number of octets in a line that is processed when it arrives
+abbrev pub max_line_len : ℕ
+max_line_len = 65535
+
 -- the octet is the given one
 abbrev pub is_octet : ℕ → ℕ → Bool
 is_octet mark octet = octet == mark
