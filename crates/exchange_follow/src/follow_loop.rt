@@ -6,7 +6,7 @@ ghost use Rattle.exchange_follow.specs.Followers.{Ends, EndsIn, EndsWith, GoesOn
 
 use crate::follower::{MAX_LINE, TraceFollower};
 use frame_engine::Carrier;
-use line_wire::{Following, Stop, Wire, first_fed, flush, move_to_front, read_after, write_all};
+use line_wire::{Following, Stop, Wire, first_fed, flush, move_to_front, read_after, send_all};
 use linked_exchange::Fabric;
 use meters::Meter;
 use std::alloc::Global;
@@ -321,7 +321,7 @@ fn follow_with<W: Wire, P: Fabric, C: Carrier, R: Threads + Sync>(
     match why {
         Following::ReadFailed => Following::ReadFailed,
         Following::WriteFailed => Following::WriteFailed,
-        _ => match write_all(wire, text.as_slice()) {
+        _ => match send_all(wire, text.as_slice()) {
             Ok(()) => why,
             Err(_) => Following::WriteFailed,
         },

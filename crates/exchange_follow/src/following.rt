@@ -35,7 +35,7 @@ pub struct FollowOutcome<C: Carrier> {
 
 // The result of a call on one kind of fabric: its ending, and the engine that is returned.
 #[derive(Drop)]
-struct CallEnd<C: Carrier> {
+struct FollowEnd<C: Carrier> {
     ending: Following,
     engine: Option<C>,
 }
@@ -77,7 +77,7 @@ fn follow_on<W: Wire, P: Fabric, C: Carrier, R: Threads + Sync>(
     wire: &mut W,
     meters: &mut Vec<Box<dyn Meter>>,
     spare: &mut VecDeque<Box<dyn Meter>>,
-) -> CallEnd<C>
+) -> FollowEnd<C>
     requires fresh { W.stands wire.old [] [] }
     requires promise { ReliesBy ⟦<dyn Meter as Meter>⟧ C.Carrier P.slots P.moves
         meters.old.items spare.old.items W.relies }
@@ -107,7 +107,7 @@ fn follow_on<W: Wire, P: Fabric, C: Carrier, R: Threads + Sync>(
     } = follower;
     *meters = on;
     *spare = left;
-    CallEnd {
+    FollowEnd {
         ending,
         engine: engine_of(ending, exchange_of(exchange, linked)),
     }

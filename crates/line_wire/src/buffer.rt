@@ -21,7 +21,7 @@ pub fn first_fed(bytes: &[u8]) -> Option<(&[u8], &[u8])>
 /// # Errors
 ///
 /// `Failed` if a write failed. Then a prefix of the octets was written.
-pub fn write_all<W: Wire>(wire: &mut W, bytes: &[u8]) -> Result<(), Failed>
+pub fn send_all<W: Wire>(wire: &mut W, bytes: &[u8]) -> Result<(), Failed>
     ensures whole { OnOk result ((heard said : List ℕ) → W.stands wire.old heard said
         → W.stands wire.new heard (said ++ bytes.now)) }
     ensures steady { OnOk result (W.write_faults wire.new ≡ W.write_faults wire.old) }
@@ -58,7 +58,7 @@ pub fn flush<W: Wire>(wire: &mut W, text: &mut Vec<u8>) -> Result<(), Failed>
         × W.stands wire.new heard (said ++ front)) }
     ensures cause { OnErr result (Rose (W.write_faults wire.old) (W.write_faults wire.new)) }
 {
-    let written = write_all(wire, text.as_slice());
+    let written = send_all(wire, text.as_slice());
     text.clear();
     written
 }

@@ -11,7 +11,7 @@
 //!
 //! A call that follows the lines of a wire has its definitions and the parts of its loop here:
 //!
-//! - [`write_all`] and [`flush`] write all of the given octets (`whole`). If a write fails, they have written a prefix
+//! - [`send_all`] and [`flush`] write all of the given octets (`whole`). If a write fails, they have written a prefix
 //!   (`front`), and the error is counted (`cause`).
 //! - [`read_after`] requires that everything that the other side relies on has been written (`settled`). It returns 0
 //!   only if the input has ended (`end`).
@@ -25,7 +25,7 @@ mod memory;
 mod standard;
 mod wire;
 
-pub use buffer::{first_fed, flush, move_to_front, read_after, write_all};
+pub use buffer::{first_fed, flush, move_to_front, read_after, send_all};
 pub use following::Following;
 pub use handler::Stop;
 pub use memory::MemWire;

@@ -8,8 +8,8 @@ use Rattle.number_plan.specs.declared.plan.Number.{Number}
 use Rattle.trace_text.specs.declared.fault.Reason.{Reason}
 use Rattle.trace_text.specs.declared.fault.Reason.TheVariants as reason
 use Rattle.trace_text.specs.declared.said.Sizes.{Sizes}
-use Rattle.trace_text.specs.declared.said.Kind.{Kind}
-use Rattle.trace_text.specs.declared.said.Kind.TheVariants as kind
+use Rattle.trace_text.specs.declared.said.LineKind.{LineKind}
+use Rattle.trace_text.specs.declared.said.LineKind.TheVariants as kind
 use Rattle.trace_text.specs.declared.said.GivenTone.{GivenTone}
 use Rattle.trace_text.specs.declared.said.Said.{Said}
 use Rattle.trace_text.specs.declared.said.Said.TheVariants.{Nothing, Header, Numbered, Toned, Timed, Happens, Sync, Change}
@@ -59,7 +59,7 @@ alone_placed : (s : SoFar) (one said : Said) (others : List (List ℕ)) → IsPl
 alone_placed s one said [] placed h = let is : one ≡ said = grind (arith, h) in subst (IsPlaced s) is placed
 alone_placed s one said (word ∷ others) placed h = absurd (grind (arith, h))
 
-kind_placed : (s : SoFar) (external : ℕ) (k : Kind) (others : List (List ℕ)) (said : Said) → IsKnown s → by_kind s external k others ≡ Ok said → IsPlaced s said
+kind_placed : (s : SoFar) (external : ℕ) (k : LineKind) (others : List (List ℕ)) (said : Said) → IsKnown s → by_kind s external k others ≡ Ok said → IsPlaced s said
 kind_placed s external kind.Frame others said known h = event_placed s (frame external others) said known h
 kind_placed s external kind.Message others said known h = event_placed s (message external others) said known h
 kind_placed s external kind.Nail others said known h = event_placed s (nail external others) said known h

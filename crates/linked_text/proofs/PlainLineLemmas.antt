@@ -6,7 +6,7 @@ use Rattle.std.specs.List.{list_all}
 use Rattle.std.specs.Str.{bytes_eq}
 use Rattle.std.specs.Cmp.Lexicographic.{bytes_decides}
 use Rattle.trace_text.specs.declared.limits.Limits.{Limits}
-use Rattle.trace_text.specs.declared.said.Kind.TheVariants as plain
+use Rattle.trace_text.specs.declared.said.LineKind.TheVariants as plain
 use Rattle.trace_text.specs.declared.said.Said.{Said}
 use Rattle.trace_text.specs.declared.said.Sizes.{Sizes}
 use Rattle.trace_text.specs.TraceGrammar.{so_far}

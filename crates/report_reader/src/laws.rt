@@ -14,14 +14,14 @@ pub fn no_line_feed()
 {}
 
 /// Bytes have one reading: they are the report of one list of answers, or one line is the first wrong one.
-pub fn one_reading()
+pub fn one_report_reading()
     ensures one_report { (bytes : List ℕ) (xs ys : List Answer) → IsReport bytes xs → IsReport bytes ys → xs ≡ ys }
     ensures never_both { (bytes : List ℕ) (answers : List Answer) (n : ℕ) → IsReport bytes answers → IsFaultyAt bytes n → ⊥ }
     ensures one_fault { (bytes : List ℕ) (m n : ℕ) → IsFaultyAt bytes m → IsFaultyAt bytes n → m ≡ n }
 {}
 
 /// Bytes have a reading: they are a report, or a line is the first wrong one.
-pub fn some_reading()
+pub fn some_report_reading()
     ensures { (bytes : List ℕ) →
         ((answers : List Answer) × IsReport bytes answers) ⊎ ((n : ℕ) × IsFaultyAt bytes n) }
 {}

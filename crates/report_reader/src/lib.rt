@@ -8,7 +8,7 @@
 //! - [`read_report`] returns the answers of a report, or the first line that encodes none or has no line feed (`read`,
 //!   `refused`, `reads_each`, `refuses_each`).
 //! - A line encodes at most one answer ([`one_spelling`]), and has no line feed in it ([`no_line_feed`]). All bytes
-//!   have one reading ([`one_reading`], [`some_reading`]).
+//!   have one reading ([`one_report_reading`], [`some_report_reading`]).
 #![tactic(auto)]
 
 mod cut;
@@ -20,6 +20,6 @@ mod signals;
 mod word;
 
 pub use cut::parse_number;
-pub use laws::{no_line_feed, one_reading, one_spelling, some_reading};
+pub use laws::{no_line_feed, one_report_reading, one_spelling, some_report_reading};
 pub use line::read_report_line;
 pub use report::{ReportFault, read_report};

@@ -25,7 +25,7 @@ pub fn law_of_verdicts()
 
 /// If the first k lines are correct, each shorter prefix is correct. A trace of n events has at most n correct lines,
 /// so a verdict refers to line n + 1 at most.
-pub fn law_of_lines()
+pub fn law_of_correct_lines()
     ensures fewer { (slots : ℕ) (trace : Trace) (bytes : List ℕ) (j k : ℕ)
         → j ≤ k → IsGood slots trace bytes k → IsGood slots trace bytes j }
     ensures good { (slots : ℕ) (trace : Trace) (bytes : List ℕ) (k : ℕ)

@@ -9,7 +9,7 @@
 //! - The numbers at the start of its lines give the order in which the events of a report were processed: two orders
 //!   with one report are equal ([`law_of_orders`]).
 //! - Exactly one verdict is correct ([`law_of_verdicts`]). For a trace of n events it names line n + 1 at most
-//!   ([`law_of_lines`]).
+//!   ([`law_of_correct_lines`]).
 //! - An event can come next if and only if it has not been processed, and all events that must come before it have been
 //!   ([`law_of_turns`]).
 //!
@@ -36,7 +36,9 @@ mod verifying;
 
 pub use checking::check;
 pub use ending::Ending;
-pub use laws::{law_of_divisions, law_of_lines, law_of_orders, law_of_turns, law_of_verdicts};
+pub use laws::{
+    law_of_correct_lines, law_of_divisions, law_of_orders, law_of_turns, law_of_verdicts,
+};
 pub use refusals::{refusal, say};
 pub use verdict::{Verdict, VerifyFault};
 pub use verifying::verify;

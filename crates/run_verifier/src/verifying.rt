@@ -17,7 +17,7 @@ use frame_engine::Engine;
 use lone_exchange::LoneExchange;
 use std::alloc::{AllocError, Global};
 use std::thread::Threads;
-use strict_map::{INTERNAL_SLOTS as STRICT_SLOTS, StrictMap};
+use strict_map::{STRICT_SLOTS, StrictMap};
 use trace_text::read_trace;
 
 /// Verifies a report against its trace, on a fabric of 30 internal slots, or of 59, on which no path ever moves.

@@ -16,4 +16,4 @@ mod laws;
 mod strict;
 
 pub use laws::nothing_moves;
-pub use strict::{INTERNAL_SLOTS, StrictMap};
+pub use strict::{STRICT_SLOTS, StrictMap};

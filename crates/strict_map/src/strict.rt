@@ -9,7 +9,7 @@ use std::marker::Model;
 
 /// The number of internal slots of a frame of a line in this fabric. The other paths of an incoming and an outgoing
 /// line of 30 places each can use all but one (Clos).
-pub const INTERNAL_SLOTS: u8 = 59;
+pub const STRICT_SLOTS: u8 = 59;
 
 /// The live map of a strict-sense non-blocking fabric: 59 internal slots, and no path moves.
 ///
@@ -40,7 +40,7 @@ impl StrictMap {
         ensures bare { IfOk result (λ m. m.layout ≡ replicate (30 * lines) None) }
     {
         Ok(StrictMap {
-            memory: PathMemory::new(alloc, lines, INTERNAL_SLOTS)?,
+            memory: PathMemory::new(alloc, lines, STRICT_SLOTS)?,
         })
     }
 }

@@ -20,8 +20,8 @@ use Rattle.trace_text.specs.declared.said.GivenTone.{GivenTone}
 use Rattle.trace_text.specs.declared.timing.GivenTimer.{GivenTimer}
 use Rattle.trace_text.specs.declared.said.Said.{Said}
 use Rattle.trace_text.specs.declared.said.Said.TheVariants.{Nothing, Header, Numbered, Toned, Timed, Happens, Sync, Change}
-use Rattle.trace_text.specs.declared.said.Kind.{Kind}
-use Rattle.trace_text.specs.declared.said.Kind.TheVariants as kind
+use Rattle.trace_text.specs.declared.said.LineKind.{LineKind}
+use Rattle.trace_text.specs.declared.said.LineKind.TheVariants as kind
 use Rattle.exchange_events.specs.declared.trace.Event.{Event}
 use Rattle.exchange_events.specs.declared.trace.Event.TheVariants.{Nail, Seat, Free, Message, LinkUp, LinkDown, RestartLine, Frame}
 use Rattle.number_plan.specs.declared.plan.Number.{Number}
@@ -420,7 +420,7 @@ timer_fine : (s : SoFar) (r : Result GivenTimer Reason) (said : Said) → timed 
 timer_fine s (Err why) said h = absurd (grind (arith, h))
 timer_fine s (Ok t) said h = let is : Timed t ≡ said = grind (arith, h) in subst (λ v. IsFine s v) is tt
 
-kind_fine : (s : SoFar) (sizes : Sizes) (k : Kind) (others : List (List ℕ)) (said : Said) → s.sizes ≡ Some sizes → by_kind s sizes.external k others ≡ Ok said → IsFine s said
+kind_fine : (s : SoFar) (sizes : Sizes) (k : LineKind) (others : List (List ℕ)) (said : Said) → s.sizes ≡ Some sizes → by_kind s sizes.external k others ≡ Ok said → IsFine s said
 kind_fine s sizes kind.Frame others said known h = event_fine s sizes (frame sizes.external others) said known (frame_fits sizes.external others) h
 kind_fine s sizes kind.Message others said known h = event_fine s sizes (message sizes.external others) said known (message_fits sizes.external others) h
 kind_fine s sizes kind.Nail others said known h = event_fine s sizes (nail sizes.external others) said known (nail_fits sizes.external others) h

@@ -21,8 +21,8 @@ use Rattle.trace_text.specs.declared.fault.LineError.{LineError}
 use Rattle.trace_text.specs.declared.fault.LineError.TheVariants as fault
 use Rattle.trace_text.specs.declared.limits.Limits.{Limits}
 use Rattle.trace_text.specs.declared.said.Sizes.{Sizes}
-use Rattle.trace_text.specs.declared.said.Kind.{Kind}
-use Rattle.trace_text.specs.declared.said.Kind.TheVariants as kind
+use Rattle.trace_text.specs.declared.said.LineKind.{LineKind}
+use Rattle.trace_text.specs.declared.said.LineKind.TheVariants as kind
 use Rattle.trace_text.specs.declared.said.GivenTone.{GivenTone}
 use Rattle.trace_text.specs.declared.said.Said.{Said}
 use Rattle.trace_text.specs.declared.said.Said.TheVariants as said
@@ -201,7 +201,7 @@ alone said [] = Ok said
 alone said (word ∷ others) = Err reason.Word
 
 -- the kind of a line with this first field
-abbrev pub kind_of : List ℕ → Kind
+abbrev pub kind_of : List ℕ → LineKind
 kind_of word =
     if bytes_eq word (codes "F") then kind.Frame
     else if bytes_eq word (codes "M") then kind.Message
@@ -233,7 +233,7 @@ abbrev pub before_events : SoFar → Result Said Reason → Result Said Reason
 before_events so_far reading = if so_far.events == 0 then reading else Err reason.Word
 
 -- a line of a kind, from the fields after the first, in an exchange with `external` external lines
-abbrev pub by_kind : SoFar → ℕ → Kind → List (List ℕ) → Result Said Reason
+abbrev pub by_kind : SoFar → ℕ → LineKind → List (List ℕ) → Result Said Reason
 by_kind so_far external kind.Frame others = happens (frame external others)
 by_kind so_far external kind.Message others = happens (message external others)
 by_kind so_far external kind.Nail others = happens (nail external others)

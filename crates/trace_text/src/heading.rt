@@ -11,7 +11,7 @@ use crate::line::{
     restart_of, seat_of, timer_of, tone_of,
 };
 use crate::plain::{ends_word, plain_frame, plain_free, plain_message, plain_nail};
-use crate::said::{GivenTone, Kind, Said, Sizes};
+use crate::said::{GivenTone, LineKind, Said, Sizes};
 use crate::timing::GivenTimers;
 use call_timers::Timers;
 use circuit_model::Kind as Tone;
@@ -230,27 +230,27 @@ impl Heading {
         &self,
         alloc: Global,
         external: u8,
-        kind: Kind,
+        kind: LineKind,
         line: &[u8],
     ) -> Result<Said, LineError>
         ensures reads { Gives result (by_kind self.now external kind (words line.now)) }
         ensures suits { IfOk result (λ said. Suits self.now said) }
     {
         match kind {
-            Kind::Frame => Ok(Said::Happens(frame_of(alloc, external, line)?)),
-            Kind::Message => Ok(Said::Happens(message_of(alloc, external, line)?)),
-            Kind::Nail => Ok(Said::Happens(nail_of(external, line)?)),
-            Kind::Seat => Ok(Said::Happens(seat_of(external, line)?)),
-            Kind::Free => Ok(Said::Happens(free_of(external, line)?)),
-            Kind::LinkUp => Ok(Said::Happens(link_up_of(external, line)?)),
-            Kind::LinkDown => Ok(Said::Happens(link_down_of(external, line)?)),
-            Kind::RestartLine => Ok(Said::Happens(restart_of(external, line)?)),
-            Kind::Number => Ok(self.number_line(external, line)?),
-            Kind::Tone => Ok(self.tone_line(alloc, line)?),
-            Kind::Timer => Ok(self.timer_line(line)?),
-            Kind::Sync => Ok(alone(Said::Sync, line)?),
-            Kind::Change => Ok(alone(Said::Change, line)?),
-            Kind::Unknown => Err(LineError::Refused(Reason::Word)),
+            LineKind::Frame => Ok(Said::Happens(frame_of(alloc, external, line)?)),
+            LineKind::Message => Ok(Said::Happens(message_of(alloc, external, line)?)),
+            LineKind::Nail => Ok(Said::Happens(nail_of(external, line)?)),
+            LineKind::Seat => Ok(Said::Happens(seat_of(external, line)?)),
+            LineKind::Free => Ok(Said::Happens(free_of(external, line)?)),
+            LineKind::LinkUp => Ok(Said::Happens(link_up_of(external, line)?)),
+            LineKind::LinkDown => Ok(Said::Happens(link_down_of(external, line)?)),
+            LineKind::RestartLine => Ok(Said::Happens(restart_of(external, line)?)),
+            LineKind::Number => Ok(self.number_line(external, line)?),
+            LineKind::Tone => Ok(self.tone_line(alloc, line)?),
+            LineKind::Timer => Ok(self.timer_line(line)?),
+            LineKind::Sync => Ok(alone(Said::Sync, line)?),
+            LineKind::Change => Ok(alone(Said::Change, line)?),
+            LineKind::Unknown => Err(LineError::Refused(Reason::Word)),
         }
     }
 

@@ -6,7 +6,7 @@ ghost use Rattle.exchange_events.specs.Sound.{IsSound};
 ghost use Rattle.trace_text.specs.TraceGrammar.{IsTrace, IsRefused};
 
 /// Bytes have at most one reading: they are one trace, or they are refused for one reason at one line.
-pub fn one_reading()
+pub fn one_trace_reading()
     ensures one_trace { (bytes : List ℕ) (t u : Trace) → IsTrace bytes t → IsTrace bytes u → t ≡ u }
     ensures never_both { (bytes : List ℕ) (t : Trace) (number : ℕ) (why : Reason) →
         IsTrace bytes t → IsRefused bytes number why → ⊥ }
@@ -15,7 +15,7 @@ pub fn one_reading()
 {}
 
 /// Bytes have a reading: they are a trace, or they are refused.
-pub fn some_reading()
+pub fn some_trace_reading()
     ensures { (bytes : List ℕ) →
         ((t : Trace) × IsTrace bytes t)
         ⊎ ((number : ℕ) × (why : Reason) × IsRefused bytes number why) }

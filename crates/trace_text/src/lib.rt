@@ -9,7 +9,7 @@
 //!   by line, and [`read_trace`] calls it.
 //! - A reader of further lines reads their fields by the same functions ([`first_word`], [`line_of_word`],
 //!   [`octets_at_most`]), and counts their events in the heading ([`Heading::count_event`]).
-//! - All bytes have exactly one reading, a trace or a refusal ([`one_reading`], [`some_reading`]).
+//! - All bytes have exactly one reading, a trace or a refusal ([`one_trace_reading`], [`some_trace_reading`]).
 //! - Every trace that is read is sound: its lines exist, and its sizes are the sizes of an exchange
 //!   ([`traces_are_sound`]).
 #![tactic(auto)]
@@ -32,7 +32,7 @@ pub use cut::{first_word, is_text, numeral_of, one_or_two_words, two_words};
 pub use fault::{LineError, Reason, TraceFault};
 pub use fields::line_of_word;
 pub use heading::{Happening, Heading};
-pub use laws::{one_reading, some_reading, traces_are_sound};
+pub use laws::{one_trace_reading, some_trace_reading, traces_are_sound};
 pub use limits::Limits;
 pub use line::only_line;
 pub use octets::octets_at_most;

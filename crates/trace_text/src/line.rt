@@ -11,7 +11,7 @@ use crate::cut::{
 use crate::fault::{LineError, Reason};
 use crate::fields::{line_of_word, room_of_word, slot_of_word};
 use crate::octets::{message_octets, thirty_octets, tone_octets};
-use crate::said::{GivenTone, Kind, Said};
+use crate::said::{GivenTone, LineKind, Said};
 use crate::timing::{GivenTimer, GivenTimers, TimerName};
 use circuit_model::Kind as Tone;
 use exchange_events::{Event, Input};
@@ -264,36 +264,36 @@ pub(crate) fn alone(said: Said, line: &[u8]) -> Result<Said, Reason>
 }
 
 /// Returns the kind of a line with this first field.
-pub(crate) fn kind_of(word: &[u8]) -> Kind
+pub(crate) fn kind_of(word: &[u8]) -> LineKind
     ensures { result ≡ kind_of word.now }
 {
     if word == b"F".as_slice() {
-        Kind::Frame
+        LineKind::Frame
     } else if word == b"M".as_slice() {
-        Kind::Message
+        LineKind::Message
     } else if word == b"sync".as_slice() {
-        Kind::Sync
+        LineKind::Sync
     } else if word == b"nail".as_slice() {
-        Kind::Nail
+        LineKind::Nail
     } else if word == b"seat".as_slice() {
-        Kind::Seat
+        LineKind::Seat
     } else if word == b"free".as_slice() {
-        Kind::Free
+        LineKind::Free
     } else if word == b"number".as_slice() {
-        Kind::Number
+        LineKind::Number
     } else if word == b"tone".as_slice() {
-        Kind::Tone
+        LineKind::Tone
     } else if word == b"timer".as_slice() {
-        Kind::Timer
+        LineKind::Timer
     } else if word == b"up".as_slice() {
-        Kind::LinkUp
+        LineKind::LinkUp
     } else if word == b"down".as_slice() {
-        Kind::LinkDown
+        LineKind::LinkDown
     } else if word == b"restart".as_slice() {
-        Kind::RestartLine
+        LineKind::RestartLine
     } else if word == b"change".as_slice() {
-        Kind::Change
+        LineKind::Change
     } else {
-        Kind::Unknown
+        LineKind::Unknown
     }
 }

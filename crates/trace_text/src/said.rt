@@ -18,7 +18,7 @@ pub struct Sizes {
 
 /// The kinds of line after the header.
 #[derive(Clone, Copy, Debug)]
-pub enum Kind {
+pub enum LineKind {
     /// A frame arrives.
     Frame,
     /// A message arrives.

@@ -7,7 +7,7 @@ ghost use Rattle.traffic_gen.specs.Lines.{Line, line_text};
 ghost use Rattle.traffic_gen.specs.Traffic.{traffic, traffic_lines};
 
 /// Each line fits the exchange of the trace, and the text of each line that fits has at most 127 printable octets.
-pub fn law_of_lines()
+pub fn law_of_generated_lines()
     ensures fits { (seed calls : ℕ) → AllByRecursion Fits (traffic_lines seed calls) }
     ensures printable { (line : Line) → Fits line → list_all is_printable (line_text line) ≡ true }
     ensures short { (line : Line) → Fits line → length (line_text line) ≤ 127 }

@@ -2,7 +2,7 @@
 //! same seed and number of calls give the same octets everywhere.
 //!
 //! - The octets of [`generate`] are exactly the definition's in `specs/Traffic.antt`.
-//! - Every line fits the exchange that the header describes (`fits` of [`laws::law_of_lines`]), and the lengths are
+//! - Every line fits the exchange that the header describes (`fits` of [`laws::law_of_generated_lines`]), and the lengths are
 //!   bounded ([`laws::law_of_lengths`]).
 #![tactic(auto)]
 

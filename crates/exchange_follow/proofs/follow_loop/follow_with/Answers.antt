@@ -14,23 +14,23 @@ pub returns-in-Ok-clause-followed : goal.returns-in-Ok-clause-followed
 returns-in-Ok-clause-followed g c =
     let due = handler_dues (λ m. (goal.Meter-dyn g (m.vtable, m.value)).stands m.value) (λ m. (goal.Meter-dyn g (m.vtable, m.value)).text m.value) g.C.Carrier.carries g.C.Carrier.next g.C.Carrier.sizes g.C.Carrier.plays g.P.Fabric.slots g.P.Fabric.moves c.args.handler.now.on.items c.args.handler.now.spare.items c.follow_to_end-why.new.handler.on.items c.follow_to_end-why.new.handler.spare.items c.follow_to_end-why.new.handler.heading c.follow_to_end-why.new.handler.lines c.follow_to_end-why.new.handler.exchange c.follow_to_end-why.new.handler.linked in
     let before = g.W.Wire.ended c.follow_to_end-why.new.wire in
-    let after = g.W.Wire.ended c.write_all.new.wire in
+    let after = g.W.Wire.ended c.send_all.new.wire in
     let (heard, said, stood, has) = c.follow_to_end-why.ensures.ended in
     let text = c.follow_to_end-why.new.text.items in
     let written = rw c.as_slice.ensures.value at c.in-Ok.ensures.whole in
-    (heard, said ++ text, written heard said stood, followed_too before after c.write_all.ensures.end due due (same_too due) c.follow_to_end-why.result heard (said ++ text) has)
+    (heard, said ++ text, written heard said stood, followed_too before after c.send_all.ensures.end due due (same_too due) c.follow_to_end-why.result heard (said ++ text) has)
 
 pub returns-in-Err : goal.returns-in-Err
 returns-in-Err g c =
     let due = handler_dues (λ m. (goal.Meter-dyn g (m.vtable, m.value)).stands m.value) (λ m. (goal.Meter-dyn g (m.vtable, m.value)).text m.value) g.C.Carrier.carries g.C.Carrier.next g.C.Carrier.sizes g.C.Carrier.plays g.P.Fabric.slots g.P.Fabric.moves c.args.handler.now.on.items c.args.handler.now.spare.items c.follow_to_end-why.new.handler.on.items c.follow_to_end-why.new.handler.spare.items c.follow_to_end-why.new.handler.heading c.follow_to_end-why.new.handler.lines c.follow_to_end-why.new.handler.exchange c.follow_to_end-why.new.handler.linked in
     let before = g.W.Wire.ended c.follow_to_end-why.new.wire in
-    let after = g.W.Wire.ended c.write_all.new.wire in
+    let after = g.W.Wire.ended c.send_all.new.wire in
     let (heard, said, stood, has) = c.follow_to_end-why.ensures.ended in
     let (front, back, is, now) = c.in-Err.ensures.front heard said stood in
     let reads = reads_same c.follow_to_end-why.result _ _ c.in_default.not-ReadFailed c.follow_to_end-why.ensures.reads in
     let writes = writes_same c.follow_to_end-why.result _ _ c.in_default.not-WriteFailed c.follow_to_end-why.ensures.writes in
     record {
-      followed = (heard, said ++ front, now, followed_too before after c.write_all.ensures.end due due (same_too due) ended.WriteFailed heard (said ++ front) (cut_text before c.follow_to_end-why.result due heard said c.follow_to_end-why.new.text.items front back (sym c.as_slice.ensures.value ∙ is) has));
-      reads = c.write_all.ensures.reads ∙ reads;
+      followed = (heard, said ++ front, now, followed_too before after c.send_all.ensures.end due due (same_too due) ended.WriteFailed heard (said ++ front) (cut_text before c.follow_to_end-why.result due heard said c.follow_to_end-why.new.text.items front back (sym c.as_slice.ensures.value ∙ is) has));
+      reads = c.send_all.ensures.reads ∙ reads;
       writes = rw writes at c.in-Err.ensures.cause;
     }

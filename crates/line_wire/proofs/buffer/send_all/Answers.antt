@@ -1,7 +1,7 @@
 use Rattle.std.proofs.Common.{arith, take, drop, take-add, length-drop, ◌∙◌, append_assoc, sym}
 use Rattle.std.proofs.lemmas.List.{take_rest, take-append-drop}
 use Rattle.line_wire.proofs.Steps.{on_err_any}
-use Rattle.line_wire.proofs.buffer.write_all.Goals as goal
+use Rattle.line_wire.proofs.buffer.send_all.Goals as goal
 
 pub loop-done-preserved : goal.loop-done-preserved
 loop-done-preserved g c =

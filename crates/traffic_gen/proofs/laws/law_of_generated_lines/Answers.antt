@@ -1,6 +1,6 @@
 use Rattle.traffic_gen.proofs.Fit.{lines_fit}
 use Rattle.traffic_gen.proofs.Spelling.{line_length, line_prints}
-use Rattle.traffic_gen.proofs.laws.law_of_lines.Goals as goal
+use Rattle.traffic_gen.proofs.laws.law_of_generated_lines.Goals as goal
 
 pub returns-clause-fits : goal.returns-clause-fits
 returns-clause-fits c = lines_fit
