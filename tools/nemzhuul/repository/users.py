@@ -103,7 +103,8 @@ class Setting:
         plan += [f"tone {name} {draw.randbytes(size).hex()}" for name, size in tones.items() if size]
         self.rings = tones["ringback"] > 0
         if draw.random() < 0.8:
-            lengths = [draw.choice((0, 1, 2, 3, 29, 59, 999_999_999)) for _ in USUAL_TIMERS]
+            others = {name: (1, 2, 3) if name in ("T308", "T309") else (59, 999_999_999) for name in USUAL_TIMERS}
+            lengths = [draw.choice((0, 1, 2, 3, 29, *others[name])) for name in USUAL_TIMERS]
             plan += [f"timer {name} {length}" for name, length in zip(USUAL_TIMERS, lengths) if length]
         self.lines = [self.header, *plan]
 
@@ -127,11 +128,12 @@ class Users:
         self.channels: dict[Leg, str] = {}
         self.due: list[str] = []  # replies to STATUS ENQUIRY and RESTART that are still to be sent
         self.answers = draw.random()  # how likely a user with an alert answers
+        self.releases = draw.choice((0.1, 0.1, 1))  # how likely a user replies to RELEASE
         self.pauses = draw.choice((0, 0.02, 0.05))
         self.frames = 0  # frames of a run that are left
         self.outages = draw.choice((0, 0.02, 0.05, 0.05))
         self.down: set[int] = set()  # the lines whose data links are down
-        self.changed: int | None = None  # the line whose data link changed last
+        self.changed: list[int] = []  # the line whose data link changed last
         self.restarts = draw.choice((0, 0.01, 0.02))
         self.acknowledges = draw.choice((0.2, 0.6, 1))  # how likely a user acknowledges RESTART
         self.is_crowded = draw.random() < 0.15
@@ -185,10 +187,12 @@ class Users:
         return draw.choices(acts, (9, 5, 2, 2, 4))[0]() or self.setup()
 
     def frame_of_a_run(self) -> str:
-        """One of the frames in which timers expire. After the last one a data link often comes up, also one that is up."""
+        """One of the frames in which timers expire. After the last one the data link of a line with a call that is being
+        released often comes up again."""
         self.frames -= 1
-        if self.frames == 0 and self.draw.random() < 10 * self.outages:
-            self.waiting.append(self.comes_up(self.draw.randrange(self.setting.external)))
+        lines = [leg.line for leg, kind in self.legs.items() if kind == RELEASE and leg.line not in self.down]
+        if self.frames == 0 and lines and self.outages and self.draw.random() < 0.6:
+            self.waiting.append(self.comes_up(self.draw.choice(lines)))
         return self.frame(0.1)
 
     def comes_up(self, line: int) -> str:
@@ -201,17 +205,15 @@ class Users:
         if (line in self.down) != (self.draw.random() < 0.2):
             return self.comes_up(line)
         self.down.add(line)
-        self.frames = max(self.frames, self.draw.choice((0, 0, 0, 0, 30, 100)))
+        self.frames = max(self.frames, self.draw.choice((0, 0, 0, 30, 100)))
         return f"down {line}"
 
     def line_that_changes(self) -> int:
-        """The line whose data link changes: at times one that is down, or the last one again."""
-        kind = self.draw.random()
-        if self.down and kind < 0.2:
-            self.changed = self.draw.choice(sorted(self.down))
-        elif self.changed is None or kind < 0.7:
-            self.changed = self.draw.randrange(self.setting.external)
-        return self.changed
+        """The line whose data link changes: at times one that is down or has an answered call, or the last one again."""
+        talking = [leg.line for leg, kind in self.legs.items() if kind in (CONNECT, CONNECT_ACKNOWLEDGE)]
+        some: Sequence[int] = self.draw.choice((sorted(self.down), talking, talking, self.changed, ()))
+        self.changed = [self.draw.choice(some or range(self.setting.external))]
+        return self.changed[0]
 
     def slot(self) -> str:
         return f"{self.draw.randrange(self.setting.external)}/{self.draw.choice(CHANNELS)}"
@@ -244,7 +246,8 @@ class Users:
             return None
         leg = self.draw.choice([*self.legs])
         kind = self.draw.choice(REPLIES.get(self.legs[leg], (None,)))
-        if kind is None or kind == CONNECT and self.draw.random() > self.answers:
+        likely = self.answers if kind == CONNECT else self.releases if self.legs[leg] == RELEASE else 1
+        if kind is None or self.draw.random() > likely:
             return None
         if kind in (ALERTING, CALL_PROCEEDING):
             self.legs[leg] = kind
@@ -329,7 +332,7 @@ def count_cases(cases: Counter[str], setting: Setting, event: str, messages: Seq
             cases[RELEASED] += sent.kind == RELEASE
         elif event.startswith("F"):
             cases[RUNG if setting.rings else NOT_RUNG] += sent.kind == DISCONNECT and cause == NO_ANSWER
-            cases[LINK_LOST] += cause == OUT_OF_ORDER
+            cases[LINK_LOST] += sent.kind == DISCONNECT and cause == OUT_OF_ORDER
         elif cause == OUT_OF_ORDER:
             cases[LINK_DOWN] += event.startswith("M")
         elif sent.kind == SETUP:
