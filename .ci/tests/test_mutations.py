@@ -164,8 +164,6 @@ class Mutations(InFolder):
         """A crate and one that it uses, even through another, are in two checks."""
         mutations = [one for crate in (self.low, self.other, self.high) for one in self.bodies(crate)]
         self.assertEqual(self.checks(mutations), [["high/0 high/1", "other/0 other/1"], ["low/0 low/1"]])
-        program = self.crate("program", is_program=True)
-        self.assertEqual(self.checks([*self.bodies(program), *self.bodies(self.low)]), [["low/2 low/3"], ["program/0 program/1"]])
         with mock.patch.object(SCRIPT, "WEIGHT", 1):
             self.assertEqual(len(self.checks([*self.bodies(self.low), *self.bodies(self.other)])), 2)
 
@@ -200,16 +198,16 @@ class Mutations(InFolder):
             with self.subTest(said=said):
                 self.assertEqual(SCRIPT.is_refused(more, said, "/top"), wanted)
 
-    def reported(self, together: Sequence[str], alone: Sequence[str], status: int) -> tuple[int, list[str]]:
+    def reported(self, together: Sequence[str], alone: Sequence[str], status: int, crate: Optional[FakeCrate] = None) -> tuple[int, list[str]]:
         """What is reported of two mutations of a crate, and how many count as not rejected, if checks say this."""
 
         def run_check(kit: Any, words: Sequence[str], folder: Path) -> Any:
-            is_alone = words[1] == "low"
+            is_alone = words[1] != SCRIPT.JOINT
             self.assertNotEqual((folder / "src" / "lib.rt").read_text(), SOURCE)
             return SCRIPT.Said(status if is_alone else 1, list(alone if is_alone else together), 4)
 
         with mock.patch.object(SCRIPT, "run_check", run_check), contextlib.redirect_stdout(io.StringIO()) as output:
-            failed = SCRIPT.report(KIT, self.bodies(self.low))
+            failed = SCRIPT.report(KIT, self.bodies(crate or self.low))
         return failed, output.getvalue().splitlines()
 
     def test_all_rejected(self) -> None:
@@ -225,6 +223,12 @@ class Mutations(InFolder):
         self.assertEqual(failed, 1)
         self.assertEqual(lines[0], "mutations: 1 of 2: low/1: rejected at most, 2 s")
         self.assertEqual(lines[1], "mutations: 2 of 2: low/0: NOT REJECTED: it is still proved, 4 s alone")
+
+    def test_program(self) -> None:
+        said = ["fn program::more: not proved", "fn program::most: not proved"]
+        failed, lines = self.reported([], said, 1, self.crate("program", is_program=True))
+        self.assertEqual(failed, 0)
+        self.assertEqual(lines[0], "mutations: 1 of 2: program/0: rejected at more, 4 s alone")
 
     def test_unread(self) -> None:
         """If a text cannot be read, each mutation is tried alone."""
