@@ -2,7 +2,7 @@
 ghost use Rattle.std.specs.Prelude.{◌≡◌, ℕ, true, ◌+◌, ◌*◌, ◌%◌, ◌<◌, ◌≤◌, IfOk, length, replicate, slice_index_or, slice_set};
 ghost use Rattle.std.specs.Int.{bit_at};
 ghost use Rattle.control_memory.specs.Layout.{number_of};
-ghost use Rattle.control_memory.specs.HeardRows.{HearAlike, heard_on, IsSilent};
+ghost use Rattle.control_memory.specs.HeardRows.{HasToneBits, HearAlike, heard_on, IsSilent, tone_bit};
 
 use crate::control_table::marked_rows;
 use crate::heard::Heard;
@@ -15,7 +15,8 @@ use std::marker::Model;
 /// sources, by the slot's number.
 ///
 /// A word marks the lines that may receive something. A silent line then costs nothing, and a boundary copies only the
-/// lines that are marked in one of the two tables.
+/// lines that are marked in one of the two tables. A word for each line has the places that receive a tone, so an engine
+/// reads no other place for its tones.
 #[derive(Debug, Drop)]
 pub struct HeardTable {
     lines: u8,
@@ -23,6 +24,8 @@ pub struct HeardTable {
     // The lines that may receive something: a bit for each, by the line's number modulo 64. A line without a bit is
     // silent.
     marks: u64,
+    // For each line the places that receive a tone, a bit for each.
+    tones: Vec<u32>,
 }
 
 impl Model for HeardTable {
@@ -34,7 +37,7 @@ impl Model for HeardTable {
 
     ghost view = { λ t. t.words.items };
 
-    ghost invariant = { λ t. AreHeardOn t.lines t.words.items t.marks };
+    ghost invariant = { λ t. AreHeardOn t.lines t.words.items t.marks t.tones.items };
 }
 
 impl HeardTable {
@@ -47,6 +50,7 @@ impl HeardTable {
             lines,
             words: vec![in alloc; HeardWord::from(Heard::Silent); slots]?,
             marks: 0,
+            tones: vec![in alloc; 0; usize::from(lines)]?,
         })
     }
 
@@ -66,6 +70,14 @@ impl HeardTable {
     {
         let start = usize::from(CHANNELS_PER_LINE) * usize::from(line);
         &self.words[start..start + usize::from(CHANNELS_PER_LINE)]
+    }
+
+    /// Returns the places of a line that receive a tone: a bit for each.
+    pub fn tone_places(&self, line: u8) -> u32
+        requires { 30 * line + 30 ≤ length self.now }
+        ensures { HasToneBits self.now line result }
+    {
+        self.tones[usize::from(line)]
     }
 
     /// Returns true only if a line is silent. The result can be false for a line that was silenced place by place.
@@ -90,6 +102,8 @@ impl HeardTable {
         ensures { self.new ≡ slice_set self.old number heard }
     {
         let line = number / usize::from(CHANNELS_PER_LINE);
+        let place = number % usize::from(CHANNELS_PER_LINE);
+        self.tones[line] = tones_with(self.tones[line], place, heard);
         self.words[number] = HeardWord::from(heard);
         self.marks |= 1 << (line % 64);
     }
@@ -101,6 +115,7 @@ impl HeardTable {
     {
         silence(&mut self.words);
         self.marks = 0;
+        self.tones.fill(0);
     }
 
     /// Copies the entries of a table of the same size. Skips the lines that are silent in both tables, and ends at the
@@ -113,6 +128,20 @@ impl HeardTable {
         let lines = marked_rows(self.lines, marks);
         copy_rows(&mut self.words, &other.words, lines, marks);
         self.marks = other.marks;
+        self.tones.copy_from_slice(&other.tones);
+    }
+}
+
+// Returns the word of a line in which the bit of one place is set if the place receives a tone, and cleared otherwise.
+fn tones_with(tones: u32, place: usize, heard: Heard) -> u32
+    requires { place < 30 }
+    ensures here { bit_at result place ≡ tone_bit heard }
+    ensures others { (other : ℕ) → other < 32 → ¬ (other ≡ place) → bit_at result other ≡ bit_at tones other }
+{
+    match heard {
+        Heard::Tone { .. } => tones | (1 << place),
+        Heard::Path { .. } => tones & !(1 << place),
+        Heard::Silent => tones & !(1 << place),
     }
 }
 

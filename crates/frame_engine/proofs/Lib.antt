@@ -5,3 +5,4 @@ pub mod RoomSums
 pub mod ReadOut
 pub mod Frame
 pub mod GivenTones
+pub mod ToneBits

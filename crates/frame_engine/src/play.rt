@@ -5,6 +5,7 @@ ghost use Rattle.circuit_model.specs.declared.channel.Slot.{Slot};
 ghost use Rattle.circuit_model.specs.declared.circuit.Kind.{Kind};
 ghost use Rattle.circuit_model.specs.FrameInput.{idle_octet};
 ghost use Rattle.frame_buffer.specs.Speech.{octet_in_half};
+ghost use Rattle.control_memory.specs.HeardRows.{HasToneBits};
 ghost use Rattle.control_memory.specs.Image.{lines_of, heard_at};
 ghost use Rattle.tone_rules.specs.Tables.{table_of, IsGiven};
 ghost use Rattle.frame_engine.specs.Frames.{PlaysOut, TonesGiven};
@@ -90,20 +91,29 @@ fn play_line(
     if table.is_silent(line) {
         *octets = IDLE_LINE;
     } else {
-        play_heard(read, table.row(line), tones, frame, octets);
+        let places = table.tone_places(line);
+        play_heard(read, table.row(line), places, tones, frame, octets);
     }
 }
 
-// Writes the octets that one line sends, given the source of each of its places. If no tone is given, none is sent.
-fn play_heard(read: &[u8], heard: &[HeardWord], tones: &Tones, frame: u32, octets: &mut [u8; 30])
+// Writes the octets that one line sends, given the source of each of its places, and the places that receive a tone.
+fn play_heard(
+    read: &[u8],
+    heard: &[HeardWord],
+    places: u32,
+    tones: &Tones,
+    frame: u32,
+    octets: &mut [u8; 30],
+)
     requires read { length read.now ≡ 30 }
     requires heard { length heard.now ≡ 30 }
+    requires places { HasToneBits heard.now 0 places }
     requires tones { AreGiven tones.now heard.now }
     ensures { EachPlace (λ place heard. played_as (table_of tones.now) frame (slice_index read.now place) heard) heard.now octets.new }
 {
     play_paths(read, heard, frame, octets);
-    if !gives_none(tones) {
-        play_tones(heard, tones, frame, octets);
+    if places != 0 {
+        play_tones(heard, places, tones, frame, octets);
     }
 }
 
@@ -139,15 +149,22 @@ fn if_received(octet: u8, is_received: bool) -> u8
     (octet & mask) | (IDLE & !mask)
 }
 
-// Writes the octets of tones over the octets of the paths.
-fn play_tones(heard: &[HeardWord], tones: &Tones, frame: u32, octets: &mut [u8; 30])
+// Writes the octets of the tones, place by place, over the octets of the paths. It is a call, so that a line without a tone
+// saves no register for it.
+#[inline(never)]
+fn play_tones(heard: &[HeardWord], places: u32, tones: &Tones, frame: u32, octets: &mut [u8; 30])
     requires heard { length heard.now ≡ 30 }
+    requires places { HasToneBits heard.now 0 places }
     requires tones { AreGiven tones.now heard.now }
     ensures { EachPlace (λ place heard. with_tone (table_of tones.now) frame (slice_index octets.old place) heard) heard.now octets.new }
 {
-    for (place, octet) in octets.iter_mut().enumerate() {
-        if let Heard::Tone { kind, since } = heard[place].to_heard() {
-            *octet = tone_octet(tones, kind, frame.saturating_sub(since));
-        }
+    let mut left = places;
+    while left != 0 {
+        let place = left.trailing_zeros();
+        left &= !(1u32 << place);
+        let Heard::Tone { kind, since } = heard[place as usize].to_heard() else {
+            unreachable!()
+        };
+        octets[place as usize] = tone_octet(tones, kind, frame.saturating_sub(since));
     }
 }

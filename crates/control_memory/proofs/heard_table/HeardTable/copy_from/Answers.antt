@@ -23,7 +23,7 @@ returns c =
       | inl early ↦ e.unmarked line place early near bit
       | inr late ↦ e.rest line place late near
     ] in
-    let whole : new ≡ o.words.items = taken_over t.lines t.words.items o.words.items new t.marks o.marks c.self.invariant (search rules) (e.size ∙ c.self.invariant.size) taken kept in
+    let whole : new ≡ o.words.items = taken_over t.lines t.words.items o.words.items new t.marks o.marks t.tones.items o.tones.items c.self.invariant (search rules) (e.size ∙ c.self.invariant.size) taken kept in
     whole ∙ c.other.view_is
 
 pub invariant_of-self : goal.invariant_of-self
@@ -33,4 +33,5 @@ invariant_of-self c =
     let here = c.copy_rows.ensures.size ∙ c.self.invariant.size in
     let there = sym (ap length whole) ∙ c.other.invariant.size in
     let lines : o.lines ≡ c.self.inside.lines = omega (arith, here, there) in
-    subst (λ n. AreHeardOn n c.copy_rows.new.to.items o.marks) lines (subst (λ h. AreHeardOn o.lines h o.marks) whole c.other.invariant)
+    let tones : o.tones.items ≡ c.copy_from_slice.new.self.items = search rules in
+    subst (λ t. AreHeardOn c.self.inside.lines c.copy_rows.new.to.items o.marks t) tones (subst (λ n. AreHeardOn n c.copy_rows.new.to.items o.marks o.tones.items) lines (subst (λ h. AreHeardOn o.lines h o.marks o.tones.items) whole c.other.invariant))
