@@ -11,7 +11,7 @@ from pathlib import Path
 import support
 from support import TOP, InFolder
 
-CHECKS = ("mutations", "random_traces", "tools", "examples", "ends", "link_model", "figures", "words", "types")
+CHECKS = ("mutations", "random_traces", "tools", "examples", "ends", "gated", "link_model", "figures", "words", "types")
 LEFT = "10 min are left if it takes as long as the last run"
 
 

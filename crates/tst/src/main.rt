@@ -7,26 +7,13 @@
 //! - `follow` reads a trace and writes the report line of each event when its line arrives. It accepts the same flag.
 //!
 //! The program makes the standard source and sink, three meters and three spare ones. It calls `exchange_top::follow`
-//! for `follow`, and `exchange_top::exchange` for all other arguments, with the engine of three stages in a box, and ends
-//! with the status of the call. The guarantee is that call's, because `main` has
-//! no contract. Nothing is proved about standard input and output, so the tests here run whole traces over in-memory
-//! streams.
+//! for `follow`, and `exchange_top::exchange` for all other arguments, with the engine of three stages in a box, and
+//! ends with the status of the call. The guarantee is that call's, because `main` has no contract. Nothing is proved
+//! about standard input and output. `.ci/gated` runs whole traces over in-memory streams by the program of
+//! `gated_tests`, which calls the same functions.
 #![tactic(auto)]
 
 ghost use Rattle.std.specs.Prelude.{[]};
-
-#[cfg(test)]
-mod changes;
-#[cfg(test)]
-mod follows;
-#[cfg(test)]
-mod gates;
-#[cfg(test)]
-mod refusals;
-#[cfg(test)]
-mod tests;
-#[cfg(test)]
-mod verdicts;
 
 use command_words::{CommandError, read_follow};
 use ex_io::{Sink, Source, StdSink, StdSource};
