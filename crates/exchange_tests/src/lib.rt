@@ -1,5 +1,5 @@
-//! Worked examples of the exchange below its texts: the turn lock and the gates, and the shared exchange, each on one
-//! thread and on several. Others are of the segments that its workers process, and of the reads and writes of a wire.
+//! Worked examples of the exchange below its texts: of its core, of the shared exchange, on one thread and on several, and
+//! of the segments that its workers process.
 //!
 //! They are separate from the crates that they test, so that each of those is proved once. The crate guarantees
 //! nothing.

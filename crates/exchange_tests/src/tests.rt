@@ -1,12 +1,9 @@
 //! Tests of facts that no clause states: the calls end, also in threads. A worked example has numbers that were found
 //! by hand.
 mod core_steps;
-mod gates;
-mod lock;
 mod opened;
 mod segments;
 mod traces;
-mod wires;
 mod work;
 
 ghost use Rattle.std.specs.Prelude.{◌≡◌, ◌≤◌, length};

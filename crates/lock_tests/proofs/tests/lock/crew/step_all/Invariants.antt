@@ -1,6 +1,6 @@
 use Rattle.std.proofs.Common.{◌≡◌, length}
 use Rattle.turn_lock.specs.Locks.{IsSeatOf}
-use Rattle.exchange_tests.proofs.tests.lock.crew.step_all.Given as goal
+use Rattle.lock_tests.proofs.tests.lock.crew.step_all.Given as goal
 
 abbrev pub invariant-loop-number : goal.invariant-loop-number
 invariant-loop-number g l = record {

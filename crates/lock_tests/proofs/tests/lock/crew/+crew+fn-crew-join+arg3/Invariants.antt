@@ -1,5 +1,5 @@
 use Rattle.std.proofs.Common.{◌+◌, ◌*◌}
-use Rattle.exchange_tests.proofs.tests.lock.crew.+crew+fn-crew-join+arg3.Given as goal
+use Rattle.lock_tests.proofs.tests.lock.crew.+crew+fn-crew-join+arg3.Given as goal
 
 abbrev pub decreases-crew : goal.decreases-crew
 decreases-crew g l = 2 * l.more

@@ -1,6 +1,6 @@
 use Rattle.std.proofs.Common.{◌≡◌, length}
 use Rattle.turn_lock.specs.Locks.{IsSeatOf}
-use Rattle.exchange_tests.proofs.tests.lock.crew.steps.Given as goal
+use Rattle.lock_tests.proofs.tests.lock.crew.steps.Given as goal
 
 abbrev pub invariant-loop-i : goal.invariant-loop-i
 invariant-loop-i g l = record {
