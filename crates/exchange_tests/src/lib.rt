@@ -1,5 +1,5 @@
-//! Worked examples of the exchange below its texts: of its core, of the shared exchange, on one thread and on several, and
-//! of the segments that its workers process.
+//! Worked examples of the exchange below its texts: its core, and the shared exchange on one thread and on several. Others
+//! are of the segments that its workers process.
 //!
 //! They are separate from the crates that they test, so that each of those is proved once. The crate guarantees
 //! nothing.
