@@ -1,4 +1,4 @@
-"""Which mutations .ci/mutations tries in one check, and what it takes for a rejection."""
+"""Which mutations .ci/mutations tries in one check, what it takes for a rejection, and that every mutation applies."""
 
 from __future__ import annotations
 
@@ -8,6 +8,7 @@ import importlib.util
 import io
 import re
 import sys
+import unittest
 from collections.abc import Sequence
 from dataclasses import dataclass
 from pathlib import Path
@@ -236,6 +237,17 @@ class Mutations(InFolder):
         self.assertEqual(failed, 1)
         self.assertEqual(lines[0], "mutations: 1 of 2: low/0: rejected at more, 4 s alone")
         self.assertIn("low/1: NOT REJECTED: it was not tried: status 1", lines[1])
+
+
+class EveryMutation(unittest.TestCase):
+    """Also those that only .ci/edits tries."""
+
+    def test_applies(self) -> None:
+        kit = load_script().load_kit()
+        for file in sorted([*TOP.glob("crates/*/edits/*.edit"), *TOP.glob("crates/*/must-fail/*.edit")]):
+            with self.subTest(file.relative_to(TOP)):
+                _, fault = kit.read_edit(str(file), str(file.parent.parent))
+                self.assertIsNone(fault)
 
 
 if __name__ == "__main__":
