@@ -1,5 +1,5 @@
 -- What is done at a slot whose restart the user acknowledges keeps the legs consistent, is permitted, and records nothing.
-use Rattle.std.proofs.Common.{◌≡◌, ◌<◌, ◌≤◌, ◌&&◌, ℕ, Bool, true, false, None, refl, ◌∙◌, ap, arith, []}
+use Rattle.std.proofs.Common.{◌≡◌, ◌<◌, ◌≤◌, ◌&&◌, ℕ, Bool, true, false, None, refl, ◌∙◌, ap, []}
 use Rattle.std.specs.Prelude.{List, ◌∷◌, is_none, if◌then◌else◌}
 use Rattle.circuit_model.specs.declared.channel.Slot.{Slot}
 use Rattle.circuit_model.specs.Extent.{IsExternal}
@@ -12,7 +12,7 @@ use Rattle.exchange_events.specs.Sizes.{Dimensions}
 use Rattle.number_plan.specs.declared.plan.Number.{Number}
 use Rattle.tone_rules.specs.declared.tones.Tones.{Tones}
 use Rattle.call_profile.specs.CallRecords.{records}
-use Rattle.call_profile.specs.Legs.{Legs, condition_at, is_unconfirmed, leg_at}
+use Rattle.call_profile.specs.Legs.{Legs, condition_at, leg_at}
 use Rattle.call_profile.specs.Operations.{Making, Operation, Remove, making_after_all, with_legs}
 use Rattle.call_profile.specs.Restarts.{confirm_rule, confirm_slot, outcome_below}
 use Rattle.call_profile.specs.World.{World}

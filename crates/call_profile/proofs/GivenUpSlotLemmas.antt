@@ -1,5 +1,5 @@
 -- What is done at a slot of a line that the exchange restarts keeps the legs consistent, is permitted, and is recorded.
-use Rattle.std.proofs.Common.{◌≡◌, Bool, Option, None, Some, refl, sym, ◌∙◌, ap, arith, []}
+use Rattle.std.proofs.Common.{◌≡◌, Option, None, Some, refl, sym, ◌∙◌, ap, arith, []}
 use lib.Seq.{set-get_or}
 use Rattle.std.specs.Prelude.{List, option_and_then, option_map, slice_set}
 use Rattle.std.specs.List.{cons_option}

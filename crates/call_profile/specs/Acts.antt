@@ -1,6 +1,6 @@
 -- The operations of each act on the leg that a message is for, and on its peer. Source: this project's profile of basic
 -- call control (ITU-T Q.931 (05/98), 5.1 to 5.3).
-use Rattle.std.specs.Prelude.{ℕ, Bool, false, List, [], ◌∷◌, Option, Some, None, is_some, if◌then◌else◌}
+use Rattle.std.specs.Prelude.{ℕ, Bool, List, [], ◌∷◌, Option, Some, None, is_some, if◌then◌else◌}
 use Rattle.circuit_model.specs.declared.channel.Slot.{Slot}
 use Rattle.circuit_model.specs.declared.circuit.Kind.{Kind}
 use Rattle.q931_codec.specs.declared.kind.MessageKind.{MessageKind}

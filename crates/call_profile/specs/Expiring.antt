@@ -1,7 +1,7 @@
 -- The operations of a timer's expiry, and the turn of a frame: ITU-T Q.931 (05/98), 9.1, table 9-1, with 5.1.3 (T302),
 -- 5.2.5.4 (T301, T303, T310), 5.3 (T305, T308) and 5.8.9 (T309). The frame in which a leg is examined, and the clearing
 -- of the rest of its call, are this project's profile.
-use Rattle.std.specs.Prelude.{ℕ, zero, suc, true, false, ◌%◌, List, [], ◌∷◌, ◌++◌, Option, Some, None, option_and_then, option_map, unwrap_or}
+use Rattle.std.specs.Prelude.{ℕ, zero, suc, ◌%◌, List, [], ◌∷◌, ◌++◌, Option, Some, None, option_and_then, option_map, unwrap_or}
 use Rattle.circuit_model.specs.declared.channel.Slot.{Slot}
 use Rattle.circuit_model.specs.FrameInput.{Input}
 use Rattle.q931_codec.specs.declared.kind.MessageKind.TheVariants as kind

@@ -1,5 +1,5 @@
 -- The operations of the exchange on calls, in sequence. Source: this project.
-use Rattle.std.specs.Prelude.{ℕ, Bool, List, [], ◌∷◌, ◌++◌, Option, Some, None, option_map}
+use Rattle.std.specs.Prelude.{ℕ, List, [], ◌∷◌, ◌++◌, Option, Some, None, option_map}
 use Rattle.circuit_model.specs.declared.channel.Slot.{Slot}
 use Rattle.circuit_model.specs.declared.circuit.Kind.{Kind}
 use Rattle.circuit_model.specs.Holding.{Holding, Connect, Seat as Take_seat, Give_tone, Clear as Clear_slot, after}

@@ -2,7 +2,7 @@
 -- establishment of the data link until it is acknowledged is this project's profile.
 use Rattle.std.specs.Prelude.{Bool, true, false}
 use Rattle.call_states.specs.declared.condition.Condition.{Condition}
-use Rattle.call_states.specs.declared.condition.Condition.TheVariants.{Idle, Unconfirmed, Owed}
+use Rattle.call_states.specs.declared.condition.Condition.TheVariants.{Unconfirmed, Owed}
 
 -- its user is owed a RESTART
 abbrev pub is_owing : Condition → Bool

@@ -1,4 +1,4 @@
-use Rattle.std.proofs.Common.{refl, sym, ◌∙◌, ap}
+use Rattle.std.proofs.Common.{sym, ◌∙◌, ap}
 use Rattle.q931_codec.specs.CallStates.{active}
 use Rattle.call_profile.specs.Acts.{in_state}
 use Rattle.call_profile.specs.Legs.{Legs}
