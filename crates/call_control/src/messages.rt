@@ -108,7 +108,13 @@ impl<P: PathMap> CallControl<P> {
     }
 
     // Processes a message on the global call reference. Only a RESTART and a RESTART ACKNOWLEDGE have an effect.
-    fn answer_on_global_reference(&mut self, out: &mut Outbox, tones: &Tones, line: u8, message: &Message)
+    fn answer_on_global_reference(
+        &mut self,
+        out: &mut Outbox,
+        tones: &Tones,
+        line: u8,
+        message: &Message,
+    )
         requires work { (s : Setting) × (w : World) × (s.tones ≡ tones.now) × IsAtWork s self.old.map self.old.legs w }
         requires line { line < self.old.map.external }
         requires fresh { (out.old.sends ≡ []) × (out.old.moved ≡ None) }
