@@ -229,14 +229,14 @@ class Mutations(InFolder):
         said = ["fn program::more: not proved", "fn program::most: not proved"]
         failed, lines = self.reported([], said, 1, self.crate("program", is_program=True))
         self.assertEqual(failed, 0)
-        self.assertEqual(lines[0], "mutations: 1 of 2: program/0: rejected at more, 4 s alone")
+        self.assertIn("program/0: rejected at more, 4 s alone", "\n".join(lines))
 
     def test_unread(self) -> None:
         """If a text cannot be read, each mutation is tried alone."""
         failed, lines = self.reported(["x: error: `y` is not in scope", "fn low::more: not proved"], ["fn low::more: not proved"], 1)
         self.assertEqual(failed, 1)
-        self.assertEqual(lines[0], "mutations: 1 of 2: low/0: rejected at more, 4 s alone")
-        self.assertIn("low/1: NOT REJECTED: it was not tried: status 1", lines[1])
+        self.assertIn("low/0: rejected at more, 4 s alone", "\n".join(lines))
+        self.assertIn("low/1: NOT REJECTED: it was not tried: status 1", "\n".join(lines))
 
 
 class EveryMutation(unittest.TestCase):
