@@ -9,3 +9,4 @@ pub mod FrameTables
 pub mod Carrying
 pub mod Shown
 pub mod Paths
+pub mod Unused

@@ -7,11 +7,13 @@
 //! - [`PathMap`] is the contract of any live map of paths. A new path joins the layout by its rule (`layout`), and its
 //!   pairs are the earlier ones and the new one (`pairs`). The result is the number of moved paths (`moves`). The
 //!   layout stays legal (`legal`), and the tables at a boundary encode it (`tables`).
+//! - A [`Fabric`] is such a map that is created for a number of lines, on its own number of internal slots.
 //! - [`PathTable`] stores a layout with its tables, for any such map.
 //! - The tables of a legal layout carry its octets ([`tables_carry_their_layout`]).
 #![tactic(auto)]
 
 mod control_table;
+mod fabric;
 mod frame_tables;
 mod heard;
 mod heard_table;
@@ -25,6 +27,7 @@ mod recent_tables;
 mod route;
 
 pub use control_table::ControlTable;
+pub use fabric::Fabric;
 pub use heard::Heard;
 pub use heard_table::HeardTable;
 pub use heard_word::HeardWord;

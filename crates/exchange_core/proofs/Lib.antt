@@ -1,3 +1,1 @@
 pub mod StepLemmas
-pub mod LegalPathLemmas
-pub mod LaidWorldLemmas

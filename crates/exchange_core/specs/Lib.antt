@@ -2,5 +2,3 @@ pub mod Working
 pub mod Boards
 pub mod Tools
 pub mod Ahead
-pub mod Beginnings
-pub mod LaidOut

@@ -8,15 +8,11 @@
 //! - [`Switchboard`] is the interface of an exchange that many callers share. A caller can pass a [`StepContext`],
 //!   which stores a message that is parsed before its turn (`preparse`). `shared_exchange` implements the interface.
 //!
-//! After every list of events of a sound trace, the layout of the paths is legal and joins exactly the existing
-//! circuits ([`law_of_layouts`]). So it is after every list of events that fit ([`law_of_reached_layouts`]).
-//!
 //! `exchange_events` defines the events, and `call_profile` the rules of calls. The code of the rules is in
 //! `call_control`.
 #![tactic(auto)]
 
 mod commands;
-mod laws;
 mod step;
 mod step_context;
 mod switchboard;
@@ -27,7 +23,6 @@ pub use exchange_events::{
     Answer, CallRecord, Encoded, Event, Events, Input, Kept, Octets, Outbox, Party, RecordList,
     Records, Reply, Response, Rows, Segments, Signal, SignalList, Signals, Trace,
 };
-pub use laws::{law_of_layouts, law_of_reached_layouts};
 pub use step::{Core, happen};
 pub use step_context::StepContext;
 pub use switchboard::Switchboard;

@@ -5,9 +5,9 @@ ghost use Rattle.line_wire.specs.declared.following.Following.TheVariants as end
 ghost use Rattle.exchange_follow.specs.Followers.{Ends, EndsIn, EndsWith, GoesOn, GoesToEnd, HandlesLine, IsOwing, IsPending, IsUnder, IsUnread, OwesLine, ReliesBy, StopsLine, StopsOwing};
 
 use crate::follower::{MAX_LINE, TraceFollower};
+use control_memory::Fabric;
 use frame_engine::Carrier;
 use line_wire::{Following, Stop, Wire, first_fed, flush, move_to_front, read_after, send_all};
-use linked_exchange::Fabric;
 use meters::Meter;
 use std::alloc::Global;
 use std::thread::Threads;

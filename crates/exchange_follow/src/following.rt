@@ -9,11 +9,11 @@ ghost use Rattle.exchange_follow.specs.Following.{FollowsTo};
 
 use crate::follow_loop::follow_lines;
 use crate::follower::TraceFollower;
-use control_memory::PathMap;
+use control_memory::{Fabric, PathMap};
 use fabric_map::FabricMap;
 use frame_engine::Carrier;
 use line_wire::{Following, Wire};
-use linked_exchange::{Fabric, LinkedExchange};
+use linked_exchange::LinkedExchange;
 use linked_text::LinkHeading;
 use lone_exchange::LoneExchange;
 use meters::Meter;

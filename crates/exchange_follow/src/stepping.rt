@@ -10,10 +10,10 @@ ghost use Rattle.linked_exchange.specs.Stepping.{calls_at};
 ghost use Rattle.linked_exchange.specs.Telling.{AreTold, AreToldFront};
 
 use crate::telling::tell;
-use control_memory::PathMap;
+use control_memory::{Fabric, PathMap};
 use exchange_events::Event;
 use frame_engine::Carrier;
-use linked_exchange::{Fabric, ready};
+use linked_exchange::ready;
 use lone_exchange::LoneExchange;
 use meters::Meter;
 use std::alloc::{AllocError, Global};

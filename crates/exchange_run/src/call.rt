@@ -1,7 +1,7 @@
 ghost use Rattle.std.specs.Prelude.{◌≡◌, ◌+◌, ◌≤◌, ◌⊎◌, ◌↔◌, [], map, None};
 ghost use Rattle.std.specs.List.{concat};
 ghost use Rattle.exchange_events.specs.Sound.{IsSound};
-ghost use Rattle.exchange_core.specs.Beginnings.{IsUnused};
+ghost use Rattle.control_memory.specs.Unused.{IsUnused};
 ghost use Rattle.trace_text.specs.TraceGrammar.{max_bytes};
 ghost use Rattle.run_verifier.specs.declared.ending.Ending.{Ending};
 ghost use Rattle.run_verifier.specs.declared.ending.Ending.TheVariants.{Completed, ReadFailed, WriteFailed};

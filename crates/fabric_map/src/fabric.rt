@@ -11,7 +11,7 @@ ghost use Rattle.fabric_map.specs.Rearranging.{without_all, AreTaken, taken_by, 
 
 use arrayvec::ArrayVec;
 use circuit_model::Slot;
-use control_memory::{Image, PathEnds, PathMap, PathTable};
+use control_memory::{Fabric, Image, PathEnds, PathMap, PathTable};
 use path_memory::PathMemory;
 use paull_matrix::Steps;
 use rearrange_chain::{Move, make_room};
@@ -160,5 +160,17 @@ impl PathMap for FabricMap {
 
     fn write_tables(&self, image: &mut Image) {
         self.memory.write_tables(image);
+    }
+}
+
+impl Fabric for FabricMap {
+    ghost use Rattle.fabric_map.specs.Map.{max_moves};
+
+    ghost slots = { 30 };
+
+    ghost moves = { max_moves };
+
+    fn unused(alloc: Global, lines: u8) -> Result<FabricMap, AllocError> {
+        FabricMap::new(alloc, lines)
     }
 }

@@ -20,7 +20,7 @@ use Rattle.linked_exchange.specs.declared.steps.LinkedEvent.{LinkedEvent}
 use Rattle.linked_text.specs.LinkLines.{Content, LinkSoFar}
 use Rattle.linked_exchange.specs.LinkedStepping.{HasLinkedHappened, IsLinkedDue, IsLinkedHeard, IsLinkedReady, IsLinkedRunning}
 use Rattle.linked_exchange.specs.Stepping.{HasHappened, IsEventDue, IsHeard, IsRunning}
-use Rattle.linked_exchange.specs.declared.fabrics.Fabric.{Ghosts as FabricKind}
+use Rattle.control_memory.specs.declared.fabric.Fabric.{Ghosts as FabricKind}
 
 -- ---- one event
 

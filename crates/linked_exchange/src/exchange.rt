@@ -1,7 +1,7 @@
 //! An exchange with data links.
 ghost use Rattle.std.specs.Prelude.{◌≡◌, ◌+◌, ◌<◌, ◌≤◌, ◌∷◌, [], All, IfOk, length};
 ghost use Rattle.call_profile.specs.Step.{MovesAtMost};
-ghost use Rattle.exchange_core.specs.Beginnings.{IsUnused};
+ghost use Rattle.control_memory.specs.Unused.{IsUnused};
 ghost use Rattle.exchange_events.specs.declared.outbox.Response.TheVariants.{Sent};
 ghost use Rattle.exchange_events.specs.Responses.{reply_of};
 ghost use Rattle.exchange_events.specs.Sound.{Fits};

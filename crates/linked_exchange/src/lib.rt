@@ -17,7 +17,6 @@
 //! - [`ready`] makes the exchange of a trace before its first event. There is an exchange then, in the state after the
 //!   lines so far (`RunsAfter`). [`ready_linked`] makes the exchange of a trace with data links (`LinkedRunsAfter`).
 //!   Each does nothing if there is an exchange.
-//! - A [`Fabric`] is a path map that is created for a number of lines, on 30 or 59 internal slots.
 //! - Lines in sequence have one list of contents (`EachInTurn`) and one story (`story_in_turn`). Without data links it
 //!   is the story of a trace ([`plain_lines_are_followed`]), and each trace with short lines is followed
 //!   ([`traces_are_followed`]).
@@ -27,7 +26,6 @@
 
 mod events;
 mod exchange;
-mod fabrics;
 mod following_laws;
 mod laws;
 mod linked_opening;
@@ -36,7 +34,6 @@ mod settings;
 mod steps;
 
 pub use exchange::LinkedExchange;
-pub use fabrics::Fabric;
 pub use following_laws::{plain_lines_are_followed, traces_are_followed};
 pub use laws::linked_runs_are_plain;
 pub use link_procedures::Indication;

@@ -2,8 +2,8 @@
 ghost use Rattle.std.specs.Prelude.{◌≡◌, OnOk, false, is_some};
 ghost use Rattle.linked_exchange.specs.Statements.{EachLinkedHeard, IsLinkedHeardSome, LinkedRunsAfter};
 
-use crate::fabrics::Fabric;
 use crate::{LinkedExchange, Settings};
+use control_memory::Fabric;
 use frame_engine::Carrier;
 use linked_text::LinkHeading;
 use std::alloc::{AllocError, Global};

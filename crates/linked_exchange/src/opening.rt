@@ -3,7 +3,7 @@ ghost use Rattle.std.specs.Prelude.{◌≡◌, ◌+◌, ◌≤◌, IfOk, OnOk, i
 ghost use Rattle.lone_exchange.specs.At.{StartsAt};
 ghost use Rattle.linked_exchange.specs.Statements.{EachHeard, IsHeardSome, RunsAfter};
 
-use crate::fabrics::Fabric;
+use control_memory::Fabric;
 use frame_engine::Carrier;
 use lone_exchange::LoneExchange;
 use std::alloc::{AllocError, Global};

@@ -1,7 +1,7 @@
 //! An exchange that processes one event at a time.
 ghost use Rattle.std.specs.Prelude.{◌≡◌, ◌+◌, ◌<◌, ◌≤◌, ◌++◌, ℕ, IfOk, OnOk, OnErr};
 ghost use Rattle.circuit_model.specs.FrameInput.{Input as An_input};
-ghost use Rattle.exchange_core.specs.Beginnings.{IsUnused};
+ghost use Rattle.control_memory.specs.Unused.{IsUnused};
 ghost use Rattle.exchange_events.specs.declared.trace.Event.{Event as An_event};
 ghost use Rattle.exchange_events.specs.declared.trace.Event.TheVariants.{Frame, Message};
 ghost use Rattle.exchange_events.specs.declared.outbox.Response.TheVariants.{Sent};

@@ -5,7 +5,7 @@ ghost use Rattle.circuit_model.specs.Holding.{empty};
 ghost use Rattle.circuit_model.specs.Ports.{free_ports};
 ghost use Rattle.circuit_map.specs.Connections.{Represents};
 ghost use Rattle.call_profile.specs.Legs.{no_legs};
-ghost use Rattle.exchange_core.specs.Beginnings.{IsUnused};
+ghost use Rattle.control_memory.specs.Unused.{IsUnused};
 ghost use Rattle.lone_exchange.specs.At.{AreUnused, HoldsNothing, IsFrameTool, idle_lines, size};
 
 use call_control::CallControl;

@@ -4,7 +4,7 @@ ghost use Rattle.exchange_events.specs.declared.trace.Trace.{Trace};
 ghost use Rattle.exchange_events.specs.Sound.{IsSound};
 ghost use Rattle.trace_text.specs.declared.fault.Reason.{Reason};
 ghost use Rattle.trace_text.specs.TraceGrammar.{IsTrace, IsRefused};
-ghost use Rattle.exchange_core.specs.Beginnings.{IsUnused};
+ghost use Rattle.control_memory.specs.Unused.{IsUnused};
 ghost use Rattle.run_verifier.specs.Verdicts.{IsInvalidAt, IsValid};
 ghost use Rattle.run_verifier.specs.Verifying.{IsAnswer, IsRight};
 

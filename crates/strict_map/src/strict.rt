@@ -2,7 +2,7 @@
 ghost use Rattle.std.specs.Prelude.{◌≡◌, ◌*◌, ◌<◌, ◌≤◌, None, IfOk, replicate};
 
 use circuit_model::Slot;
-use control_memory::{Image, PathMap};
+use control_memory::{Fabric, Image, PathMap};
 use path_memory::PathMemory;
 use std::alloc::{AllocError, Global};
 use std::marker::Model;
@@ -87,5 +87,17 @@ impl PathMap for StrictMap {
 
     fn write_tables(&self, image: &mut Image) {
         self.memory.write_tables(image);
+    }
+}
+
+impl Fabric for StrictMap {
+    ghost use Rattle.strict_map.specs.Strict.{max_moves};
+
+    ghost slots = { 59 };
+
+    ghost moves = { max_moves };
+
+    fn unused(alloc: Global, lines: u8) -> Result<StrictMap, AllocError> {
+        StrictMap::new(alloc, lines)
     }
 }

@@ -9,8 +9,8 @@ use Rattle.number_plan.proofs.OrderFacts.{all_with}
 use Rattle.exchange_events.specs.declared.trace.Event.{Event}
 use Rattle.exchange_events.specs.declared.trace.Event.TheVariants.{Nail, Seat, Free, Message, LinkUp, LinkDown, RestartLine, Frame}
 use Rattle.exchange_events.specs.Sound.{Fits, is_reached}
-use Rattle.exchange_core.specs.LaidOut.{IsFitting, IsLegalIn, JoinsCircuitsIn}
-use Rattle.exchange_core.proofs.LaidWorldLemmas.{joins_reached, legal_reached}
+use Rattle.layout_laws.specs.LaidOut.{IsFitting, IsLegalIn, JoinsCircuitsIn}
+use Rattle.layout_laws.proofs.LaidWorldLemmas.{joins_reached, legal_reached}
 use Rattle.trace_text.specs.declared.said.Said.{Said}
 use Rattle.trace_text.specs.declared.said.Said.TheVariants.{Nothing, Header, Numbered, Toned, Timed, Happens, Sync, Change}
 use Rattle.trace_text.specs.declared.said.Sizes.{Sizes}
@@ -25,7 +25,7 @@ use Rattle.linked_exchange.specs.LinkedStory.{inputs_in, inputs_of}
 use Rattle.linked_text.specs.declared.said.LinkSaid.TheVariants.{Linked, Received, Timed as Link_timed}
 use Rattle.linked_text.specs.LinkEffects.{in_turn, link_row, linked_in, linked_said, plain_told}
 use Rattle.linked_text.specs.LinkLines.{Content, On_link, Plain, plain_of}
-use Rattle.followed_laws.specs.Followed.{AreFollowed}
+use Rattle.layout_laws.specs.Followed.{AreFollowed}
 use Rattle.linked_exchange.specs.InTurn.{EachInTurn, events_by, events_in_turn, link_timers_said, setting_in_turn, world_in_turn}
 use Rattle.linked_exchange.proofs.TurnLines.{IsTurnFine, IsTurnLine, follows_turn, turn_line}
 use Rattle.linked_exchange.proofs.TurnSteps.{IsTurnPlaced, inputs_at, inputs_more, linked_more, plain_more}

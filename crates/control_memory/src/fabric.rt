@@ -1,11 +1,9 @@
-//! The fabrics on which a trace can be followed.
+//! A map of paths that is created for a number of lines.
 ghost use Rattle.std.specs.Prelude.{◌≡◌, ◌<◌, ◌≤◌, ℕ, IfOk};
-ghost use Rattle.exchange_core.specs.Beginnings.{IsUnused};
+ghost use Rattle.control_memory.specs.Unused.{IsUnused};
 
-use control_memory::PathMap;
-use fabric_map::FabricMap;
+use crate::path_map::PathMap;
 use std::alloc::{AllocError, Global};
-use strict_map::StrictMap;
 
 /// A path map that is created for a number of lines. All maps of one type have the same number of internal slots.
 pub trait Fabric: PathMap + Sized + Drop {
@@ -25,28 +23,4 @@ pub trait Fabric: PathMap + Sized + Drop {
         ensures unused { IfOk result (λ m. IsUnused lines (Self.width m) (Self.depth m) (Self.layout m)) }
         ensures depth { IfOk result (λ m. Self.depth m ≡ slots) }
         ensures bound { IfOk result (λ m. Self.bound m ≡ moves lines) };
-}
-
-impl Fabric for FabricMap {
-    ghost use Rattle.fabric_map.specs.Map.{max_moves};
-
-    ghost slots = { 30 };
-
-    ghost moves = { max_moves };
-
-    fn unused(alloc: Global, lines: u8) -> Result<FabricMap, AllocError> {
-        FabricMap::new(alloc, lines)
-    }
-}
-
-impl Fabric for StrictMap {
-    ghost use Rattle.strict_map.specs.Strict.{max_moves};
-
-    ghost slots = { 59 };
-
-    ghost moves = { max_moves };
-
-    fn unused(alloc: Global, lines: u8) -> Result<StrictMap, AllocError> {
-        StrictMap::new(alloc, lines)
-    }
 }

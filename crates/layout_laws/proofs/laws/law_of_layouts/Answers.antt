@@ -1,5 +1,5 @@
-use Rattle.exchange_core.proofs.LaidWorldLemmas.{legal_after, joins_after}
-use Rattle.exchange_core.proofs.laws.law_of_layouts.Goals as goal
+use Rattle.layout_laws.proofs.LaidWorldLemmas.{legal_after, joins_after}
+use Rattle.layout_laws.proofs.laws.law_of_layouts.Goals as goal
 
 pub returns-clause-legal : goal.returns-clause-legal
 returns-clause-legal c = legal_after

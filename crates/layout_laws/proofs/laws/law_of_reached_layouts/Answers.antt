@@ -1,5 +1,5 @@
-use Rattle.exchange_core.proofs.LaidWorldLemmas.{joins_reached, legal_reached}
-use Rattle.exchange_core.proofs.laws.law_of_reached_layouts.Goals as goal
+use Rattle.layout_laws.proofs.LaidWorldLemmas.{joins_reached, legal_reached}
+use Rattle.layout_laws.proofs.laws.law_of_reached_layouts.Goals as goal
 
 pub returns-clause-legal : goal.returns-clause-legal
 returns-clause-legal c = legal_reached

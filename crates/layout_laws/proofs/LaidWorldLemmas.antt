@@ -36,8 +36,8 @@ use Rattle.call_profile.specs.Step.{events_of}
 use Rattle.call_profile.specs.World.{World, exchange_lines, one_way, both_ways, with_port, start}
 use Rattle.call_profile.proofs.KeptWorldLemmas.{Keeps, run_keeps}
 use Rattle.call_profile.proofs.StandingLegLemmas.{start_stands}
-use Rattle.exchange_core.specs.LaidOut.{IsFitting, IsLegalAfter, IsLegalIn, JoinsCircuitsAfter, JoinsCircuitsIn, world_of_all}
-use Rattle.exchange_core.proofs.LegalPathLemmas.{IsMatched, IsJoined-connect, IsMatched-without_path}
+use Rattle.layout_laws.specs.LaidOut.{IsFitting, IsLegalAfter, IsLegalIn, JoinsCircuitsAfter, JoinsCircuitsIn, world_of_all}
+use Rattle.layout_laws.proofs.LegalPathLemmas.{IsMatched, IsJoined-connect, IsMatched-without_path}
 use Rattle.exchange_core.proofs.StepLemmas.{fits_all}
 
 -- ---- circuits and paths

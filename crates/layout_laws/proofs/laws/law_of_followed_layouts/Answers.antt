@@ -1,5 +1,5 @@
-use Rattle.followed_laws.proofs.FollowedLayouts.{joins_followed, legal_followed}
-use Rattle.followed_laws.proofs.laws.law_of_followed_layouts.Goals as goal
+use Rattle.layout_laws.proofs.FollowedLayouts.{joins_followed, legal_followed}
+use Rattle.layout_laws.proofs.laws.law_of_followed_layouts.Goals as goal
 
 pub returns-clause-legal : goal.returns-clause-legal
 returns-clause-legal c = legal_followed

@@ -1,0 +1,3 @@
+mod LegalPathLemmas
+mod LaidWorldLemmas
+mod FollowedLayouts
