@@ -5,10 +5,11 @@ ghost use Rattle.linked_exchange.specs.LinkedStepping.{calls_in, steps_at};
 ghost use Rattle.linked_exchange.specs.Telling.{AreToldFront};
 
 use crate::telling::tell;
+use control_memory::Fabric;
 use exchange_events::Response;
 use frame_engine::Carrier;
 use linked_exchange::{
-    Fabric, LinkedEvent, LinkedExchange, Settings, put_step, put_turn_step, ready_linked,
+    LinkedEvent, LinkedExchange, Settings, put_step, put_turn_step, ready_linked,
 };
 use linked_text::LinkHeading;
 use meters::Meter;
