@@ -14,7 +14,7 @@ use Rattle.meters.specs.Changing.{handed_in, steps_text}
 use Rattle.meters.specs.declared.meter.Meter.{Ghosts as MeterKind}
 use Rattle.trace_text.specs.TraceWords.{lines as lines_of}
 use Rattle.linked_text.specs.declared.said.LinkHappening.{LinkHappening}
-use Rattle.linked_exchange.specs.declared.fabrics.Fabric.{Ghosts as FabricKind}
+use Rattle.control_memory.specs.declared.fabric.Fabric.{Ghosts as FabricKind}
 use Rattle.exchange_follow.specs.declared.follower.TraceFollower.{TraceFollower}
 use Rattle.exchange_follow.specs.Following.{Course, FollowParties, FollowsTo, IsAnswered, IsInterrupted, course, follow_parties}
 use Rattle.exchange_follow.specs.Handling.{HasRead, handler_dues}
