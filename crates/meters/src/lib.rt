@@ -27,8 +27,8 @@
 //!
 //! A program passes its meters to `exchange_top::exchange` in `meters`, or in `spare` for a change.
 //! `meters.push(Box::new(alloc, CallsToLine::new(12))?)?` adds one after the others. After the call,
-//! `append_summaries(&meters, &mut out)` writes the summaries of the active meters. `library_example` is a whole
-//! program with its own meter.
+//! `append_summaries(&meters, &mut out)` writes the summaries of the active meters. `library_example` is a library with
+//! its own meter, and `gated_tests` a program that uses it.
 #![tactic(auto)]
 
 mod call_detail;
