@@ -3,7 +3,7 @@ use crate::gates::TestedGate;
 use std::alloc::{AllocError, Global};
 
 /// The letters of the kinds of meters.
-const METERS: &[u8] = b"lcmph";
+const METERS: &[u8] = b"lcmphb";
 
 /// A read or a write that fails, by number, 0 for none, and the octets that one call moves at most.
 #[derive(Clone, Copy, Drop)]

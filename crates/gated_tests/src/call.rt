@@ -4,14 +4,19 @@ ghost use Rattle.line_wire.specs.Memory.{IsTaped};
 
 use crate::arguments::Arguments;
 use ex_io::{MemSink, MemSource};
-use exchange_top::{FollowOutcome, Outcome, exchange, follow};
-use frame_engine::{Carrier, Engine};
+use exchange_follow::{FollowOutcome, follow};
+use exchange_run::{Outcome, exchange};
+use frame_engine::Carrier;
+use library_example::CauseCount;
 use line_wire::MemWire;
 use meters::{CallDetail, HoldingTime, Meter, PegCount, append_summaries};
 use std::alloc::{AllocError, Global};
 use std::collections::VecDeque;
 use std::sync::Wait;
 use std::thread::Threads;
+
+// The cause of a call to a busy line.
+const BUSY: u8 = 17;
 
 /// The result of a call: the status, the number of processed events and the last of them, and whether an engine is
 /// returned.
@@ -36,7 +41,7 @@ impl Ended {
     }
 
     // Returns the result of a call of `follow`.
-    fn of_following(outcome: &FollowOutcome<Engine>) -> Ended {
+    fn of_following<C: Carrier>(outcome: &FollowOutcome<C>) -> Ended {
         Ended {
             status: outcome.status,
             events: 0,
@@ -80,6 +85,7 @@ pub fn called<C: Carrier, R: Threads + Wait + Sync>(
         match *letter {
             b'p' => boxed.push_back(Box::new(alloc, PegCount::new())?)?,
             b'h' => boxed.push_back(Box::new(alloc, HoldingTime::new())?)?,
+            b'b' => boxed.push_back(Box::new(alloc, CauseCount::new(BUSY))?)?,
             other => boxed.push_back(Box::new(alloc, CallDetail::new(alloc, details(other))?)?)?,
         }
     }
@@ -94,8 +100,9 @@ pub fn called<C: Carrier, R: Threads + Wait + Sync>(
     Ok(Ended::of_run(&outcome))
 }
 
-/// Calls `follow` over a wire. The meters are boxed here, where they are used. Adds those that are left.
-pub fn followed<R: Threads + Sync>(
+/// Calls `follow` over a wire, with an engine of type `C`. The meters are boxed here, where they are used. Adds those
+/// that are left.
+pub fn followed<C: Carrier, R: Threads + Sync>(
     rt: &R,
     alloc: Global,
     arguments: &Arguments,
@@ -110,12 +117,13 @@ pub fn followed<R: Threads + Sync>(
         match *letter {
             b'p' => boxed.push_back(Box::new(alloc, PegCount::new())?)?,
             b'h' => boxed.push_back(Box::new(alloc, HoldingTime::new())?)?,
+            b'b' => boxed.push_back(Box::new(alloc, CauseCount::new(BUSY))?)?,
             other => boxed.push_back(Box::new(alloc, CallDetail::new(alloc, details(other))?)?)?,
         }
     }
     let mut spare = boxed.split_off(boxed.len().min(arguments.on.len()))?;
     let mut on = Vec::from(boxed);
-    let outcome: FollowOutcome<Engine> = follow(rt, alloc, strict, wire, &mut on, &mut spare);
+    let outcome: FollowOutcome<C> = follow(rt, alloc, strict, wire, &mut on, &mut spare);
     left.on = on.len();
     left.spare = spare.len();
     append_summaries(on.as_slice(), &mut left.text)?;

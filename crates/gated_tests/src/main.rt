@@ -1,7 +1,7 @@
 //! The program of the tests of a whole call: the exchange over streams in memory, under a gate and with any meters.
 //!
 //! `gated_tests GATE ON SPARE READS WRITES COMMAND ..` passes standard input and the arguments from COMMAND on to
-//! `exchange_top::exchange`, or to `exchange_top::follow` if COMMAND is `follow`. After a word `marked` the engine is
+//! `exchange_run::exchange`, or to `exchange_follow::follow` if COMMAND is `follow`. After a word `marked` the engine is
 //! `Marker`. The arguments before it are:
 //!
 //! - GATE ([`TestedGate`](gates::TestedGate)): `open` is the gate of `tst`. With `single` all segments run in threads
@@ -9,7 +9,8 @@
 //!   `behind:HELD:FIRST`, `crossing:EVENT:FRAME` and `meeting:WORKERS` hold threads. `watched:EVENTS:FRAMER` records
 //!   the calls of threads, and `watched_open:EVENTS:FRAMER` the calls of one caller.
 //! - ON and SPARE: a letter for each active and each spare meter, `-` for none. `l`, `c` and `m` are details of the
-//!   last call, of the last 10 and of the last 20, `p` is a peg count, and `h` the holding time.
+//!   last call, of the last 10 and of the last 20, `p` is a peg count, and `h` the holding time. `b` is the meter of
+//!   `library_example`, and counts the calls to busy lines.
 //! - READS and WRITES: `CALL:PIECE` is the number of the call that fails, 0 if all succeed, and the largest number of
 //!   octets that one call moves.
 //!
@@ -21,9 +22,8 @@
 //! - `gate`: the record of the gate ([`TestedGate::record`](gates::TestedGate::record)).
 //! - `reads`: the number of octets written before each read of a followed trace.
 //!
-//! `gated_tests GATE example` writes the report of `library_example`. The program ends with the status of the command.
-//! For other arguments it ends with 8, and if an allocation, a read or a write fails outside the call, with 9. It then
-//! writes nothing.
+//! The program ends with the status of the command. For other arguments it ends with 8, and if an allocation, a read or
+//! a write fails outside the call, with 9. It then writes nothing.
 //!
 //! The order of the threads is not reproducible. `.ci/random_traces` compares the report with a reference program that
 //! processes the events in the order of its lines, and `.ci/gated` has worked calls. The program is proved safe. No
@@ -43,7 +43,6 @@ use call::{Left, called, followed};
 use ex_io::{MemSink, MemSource, StdSource, read_all};
 use frame_engine::{Carrier, Engine, Marker};
 use gates::TestedGate;
-use library_example::report_with_counts;
 use line_wire::MemWire;
 use std::alloc::{AllocError, Global};
 use std::process::ExitCode;
@@ -152,7 +151,7 @@ fn followed_wire<R: Threads + Sync>(
     }
     let mut wire = wire_of(alloc, input, reads, writes)?;
     let mut left = none_left(alloc);
-    let ended = followed(rt, alloc, arguments, strict, &mut wire, &mut left)?;
+    let ended = followed::<Engine, R>(rt, alloc, arguments, strict, &mut wire, &mut left)?;
     let text = text_of(
         alloc,
         &arguments.gate,
@@ -190,21 +189,6 @@ fn wrong_arguments(alloc: Global) -> Result<Answer, AllocError> {
     })
 }
 
-// Returns the report of the example under a gate.
-fn example<R: Threads + Wait + Sync>(
-    rt: &R,
-    alloc: Global,
-    gate: &str,
-) -> Result<Answer, AllocError> {
-    match TestedGate::read(alloc, gate)? {
-        Some(gate) => Ok(Answer {
-            text: report_with_counts(rt, alloc, &gate)?,
-            status: 0,
-        }),
-        None => wrong_arguments(alloc),
-    }
-}
-
 // Returns the answer to the arguments after the program's name.
 fn answered<R: Threads + Wait + Sync>(
     rt: &R,
@@ -212,12 +196,9 @@ fn answered<R: Threads + Wait + Sync>(
     words: &[String],
     input: Vec<u8>,
 ) -> Result<Answer, AllocError> {
-    match words {
-        [gate, word] if word.as_str() == "example" => example(rt, alloc, gate.as_str()),
-        _ => match read_arguments(alloc, words)? {
-            Some(arguments) => answer_of(rt, alloc, &arguments, input),
-            None => wrong_arguments(alloc),
-        },
+    match read_arguments(alloc, words)? {
+        Some(arguments) => answer_of(rt, alloc, &arguments, input),
+        None => wrong_arguments(alloc),
     }
 }
 
