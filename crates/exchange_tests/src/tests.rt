@@ -12,6 +12,7 @@ ghost use Rattle.exchange_events.specs.Sound.{IsSound};
 use core_steps::nail_is_shown;
 use exchange_core::Switchboard;
 use exchange_events::Trace;
+use frame_engine::Engine;
 use gate::{Gate, OpenGate, TestGate};
 use opened::opened;
 use segments::{frames_are_answered, part_is_answered, segments_are_answered};
@@ -122,22 +123,22 @@ fn processor_answers(rt: &impl Wait, alloc: Global) -> Result<bool, AllocError> 
 }
 
 // Tests a frame worker with its own trace.
-fn frame_worker_answers(
-    rt: &(impl Threads + Wait + Sync),
+fn frame_worker_answers<R: Threads + Wait + Sync>(
+    rt: &R,
     alloc: Global,
 ) -> Result<bool, AllocError> {
     let trace = nail_and_five_frames(alloc)?;
-    frames_are_answered(rt, alloc, &trace)
+    frames_are_answered::<Engine, R>(rt, alloc, &trace)
 }
 
 // Tests all workers with their own trace.
-fn all_workers_answer<G: Gate>(
-    rt: &(impl Threads + Wait + Sync),
+fn all_workers_answer<G: Gate, R: Threads + Wait + Sync>(
+    rt: &R,
     alloc: Global,
     gate: &G,
 ) -> Result<bool, AllocError> {
     let trace = nail_and_five_frames(alloc)?;
-    segments_are_answered(rt, alloc, &trace, gate)
+    segments_are_answered::<Engine, G, R>(rt, alloc, &trace, gate)
 }
 
 #[test]

@@ -83,9 +83,11 @@ pub fn nail_is_shown(alloc: Global, trace: &Trace) -> Result<bool, AllocError>
     requires sound { IsSound trace.now }
     requires lines { (trace.now.external ≡ 2) × (trace.now.bridges ≡ 0) }
 {
-    let paths = FabricMap::new(alloc, 2)?;
     let image = Image::new(alloc, 2, 0, 30)?;
+    let paths = FabricMap::new(alloc, 2)?;
     let mut core = Core::new(alloc, trace, paths)?;
-    let is_right = is_granted(&mut core, trace) && is_shown(&mut core, trace, image);
-    Ok(is_right && core.into_journal().as_slice() == [(3, 1), (4, 2)].as_slice())
+    let granted = is_granted(&mut core, trace);
+    let shown = is_shown(&mut core, trace, image);
+    let journal = core.into_journal();
+    Ok(granted && shown && journal.as_slice() == [(3, 1), (4, 2)].as_slice())
 }

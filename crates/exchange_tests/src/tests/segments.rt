@@ -16,7 +16,7 @@ use control_memory::Image;
 use exchange_core::{Switchboard, Tool};
 use exchange_events::{Answer, Trace};
 use fabric_map::FabricMap;
-use frame_engine::{Carrier, Engine};
+use frame_engine::Carrier;
 use gate::{Gate, OpenGate};
 use segment_run::{SegmentAnswer, run_segment};
 use shared_exchange::{Seat, SharedExchange};
@@ -165,8 +165,9 @@ fn run_both<B: Switchboard, G: Gate, C: Carrier, R: Threads + Wait + Sync>(
     Ok(nailed && carried)
 }
 
-/// Returns whether both segments of a trace of two lines have the expected answers, in sequence.
-pub fn segments_are_answered<G: Gate, R: Threads + Wait + Sync>(
+/// Returns whether both segments of a trace of two lines have the expected answers, in sequence, with an engine of type
+/// `C`.
+pub fn segments_are_answered<C: Carrier, G: Gate, R: Threads + Wait + Sync>(
     rt: &R,
     alloc: Global,
     trace: &Trace,
@@ -176,7 +177,7 @@ pub fn segments_are_answered<G: Gate, R: Threads + Wait + Sync>(
     requires sizes { (trace.now.external ≡ 2) × (trace.now.bridges ≡ 0) }
     requires segments { length trace.now.segments ≡ 2 }
 {
-    let (board, seat, engine, tool) = equipped::<Engine>(alloc, trace)?;
+    let (board, seat, engine, tool) = equipped::<C>(alloc, trace)?;
     run_both(rt, alloc, &board, seat, trace, engine, tool, gate)
 }
 
@@ -237,8 +238,8 @@ fn carries<B: Switchboard, C: Carrier, R: Threads + Wait + Sync>(
 }
 
 /// Returns whether the frame worker of a trace of two lines answers the whole second segment, after the first one was
-/// run.
-pub fn frames_are_answered<R: Threads + Wait + Sync>(
+/// run, with an engine of type `C`.
+pub fn frames_are_answered<C: Carrier, R: Threads + Wait + Sync>(
     rt: &R,
     alloc: Global,
     trace: &Trace,
@@ -247,6 +248,6 @@ pub fn frames_are_answered<R: Threads + Wait + Sync>(
     requires sizes { (trace.now.external ≡ 2) × (trace.now.bridges ≡ 0) }
     requires segments { length trace.now.segments ≡ 2 }
 {
-    let (board, seat, engine, tool) = equipped::<Engine>(alloc, trace)?;
+    let (board, seat, engine, tool) = equipped::<C>(alloc, trace)?;
     carries(rt, alloc, &board, seat, trace, engine, tool)
 }
