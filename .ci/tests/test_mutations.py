@@ -51,6 +51,13 @@ impl Counts for u32 {
 }
 """
 
+PROGRAM = """
+// Begins.
+fn main(rt: HostRuntime) {
+    begin(&rt);
+}
+"""
+
 
 def load_script() -> ModuleType:
     loader = importlib.machinery.SourceFileLoader("mutations", str(TOP / ".ci" / "mutations"))
@@ -119,13 +126,14 @@ class Mutations(InFolder):
     def crate(self, name: str, *deps: FakeCrate, is_program: bool = False) -> FakeCrate:
         folder = self.folder / "crates" / name
         (folder / "src").mkdir(parents=True)
-        (folder / "src" / "lib.rt").write_text(SOURCE)
+        (folder / "src" / ("main.rt" if is_program else "lib.rt")).write_text(SOURCE + PROGRAM * is_program)
         (folder / "edits").mkdir()
         return FakeCrate(name, str(folder), deps, is_program)
 
     def mutation(self, crate: FakeCrate, function: str, old: str, new: str) -> Any:
         file = Path(crate.folder, "edits", f"{len(list(Path(crate.folder, 'edits').iterdir()))}.edit")
-        file.write_text(f"only: {function}\nfile: src/lib.rt\nold: {old}\nnew: {new}\n")
+        root = "main.rt" if crate.is_program else "lib.rt"
+        file.write_text(f"only: {function}\nfile: src/{root}\nold: {old}\nnew: {new}\n")
         return SCRIPT.Mutation(crate, file, function)
 
     def bodies(self, crate: FakeCrate) -> list[Any]:
@@ -226,10 +234,16 @@ class Mutations(InFolder):
         self.assertEqual(lines[1], "mutations: 2 of 2: low/0: NOT REJECTED: it is still proved, 4 s alone")
 
     def test_program(self) -> None:
+        """A program is tried like a library."""
         said = ["fn program::more: not proved", "fn program::most: not proved"]
-        failed, lines = self.reported([], said, 1, self.crate("program", is_program=True))
-        self.assertEqual(failed, 0)
-        self.assertIn("program/0: rejected at more, 4 s alone", "\n".join(lines))
+        failed, lines = self.reported(said, [], 2, self.crate("program", is_program=True))
+        self.assertEqual((failed, lines[0]), (0, "mutations: 1 of 2: program/0: rejected at more, 2 s"))
+
+    def test_program_without_main(self) -> None:
+        program = self.crate("program", is_program=True)
+        SCRIPT.make_library(Path(program.folder))
+        self.assertEqual(Path(program.folder, "src", "lib.rt").read_text(), f"{SOURCE}\n")
+        self.assertFalse(Path(program.folder, "src", "main.rt").exists())
 
     def test_unread(self) -> None:
         """If a text cannot be read, each mutation is tried alone."""
