@@ -60,7 +60,8 @@ class RunTimes(InFolder):
         kept = self.last.read_text()
         self.file(".ci/words").write_text("#!/bin/sh\nexit 1\n")
         status, lines = self.ran(".ci/run", times=False)
-        wanted = ["run: 3 of 3 crates proved after 0 min", "run: .ci/mutations", "run: .ci/random_traces", "run: .ci/tools"]
+        beside = " ".join(f".ci/{check}" for check in CHECKS[3:])
+        wanted = ["run: 3 of 3 crates proved after 0 min", f"run: .ci/mutations {beside}", "run: .ci/random_traces", "run: .ci/tools"]
         self.assertEqual((status, self.with_text(lines)[:4]), (1, wanted))
         self.assertEqual(self.last.read_text(), kept)
 
@@ -82,6 +83,16 @@ class RunTimes(InFolder):
                 self.assertEqual([lines[-1].partition("; ")[2]], wanted or [""])
         _, lines = self.ran(".ci/beside", ".ci/words", times=False)
         self.assertEqual(lines, ["run: .ci/words"])
+
+    def test_outputs(self) -> None:
+        """The first check writes at once, and what another wrote is printed with its end."""
+        self.file(".ci/mutations").write_text("#!/bin/sh\necho one\nuntil [ -e ended ]; do sleep 0.05; done\necho three\n")
+        self.file(".ci/words").write_text("#!/bin/sh\necho two\n>ended\nexit 1\n")
+        status, lines = self.ran(".ci/beside", ".ci/mutations", ".ci/words", times=False)
+        lines = [line.partition(" after ")[0] for line in lines]
+        ends = ["run: .ci/mutations ended with status 0", "run: .ci/words ended with status 1"]
+        self.assertEqual((status, sorted(lines[1:])), (1, sorted(["one", "two", "three", *ends])))
+        self.assertEqual(lines.index("two") + 1, lines.index(ends[1]))
 
 
 if __name__ == "__main__":
