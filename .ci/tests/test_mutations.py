@@ -248,7 +248,7 @@ class Mutations(InFolder):
     def test_unread(self) -> None:
         """If a text cannot be read, each mutation is tried alone."""
         failed, lines = self.reported(["x: error: `y` is not in scope", "fn low::more: not proved"], ["fn low::more: not proved"], 1)
-        self.assertEqual(failed, 1)
+        self.assertEqual((failed, lines[0]), (1, "mutations: 2 are tried alone: status 1: x: error: `y` is not in scope"))
         self.assertIn("low/0: rejected at more, 4 s alone", "\n".join(lines))
         self.assertIn("low/1: NOT REJECTED: it was not tried: status 1", "\n".join(lines))
 
