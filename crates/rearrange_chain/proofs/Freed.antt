@@ -7,7 +7,7 @@ use Rattle.paull_matrix.specs.Matrix.{Matrix, row_slot, column_slot, is_free_in_
 use Rattle.paull_matrix.proofs.Numbers.{lowest_passes, lowest_none}
 use Rattle.paull_matrix.proofs.Laws.{column_of_row, row_of_column, row_inside, no_column, lowest_in_row_is, lowest_in_column_is}
 use Rattle.rearrange_chain.specs.declared.moves.Move.{Move}
-use Rattle.rearrange_chain.specs.Chain.{End, Row, Column, far_line, far_end, move_of, chain, lifted, exchanged, is_shorter, shorter, ChangesBy}
+use Rattle.rearrange_chain.specs.Chain.{End, Row, Column, far_line, far_end, move_of, lifted, exchanged, from_row, from_column, is_shorter, shorter, ChangesBy}
 use Rattle.rearrange_chain.proofs.Walk.{leave, enter, IsMirrored, IsWithin, own_chain, is_step, slice_get-own_chain_has_step, rows_leave_once, rows_take_once, columns_take_once, not_entered, move_of_new, move_of_old}
 use Rattle.rearrange_chain.proofs.Closed.{IsOpen, turned_round, both_bound, takes_neighbour, other_untouched}
 use Rattle.rearrange_chain.proofs.Exchange.{IsExchange, row_slot-lifted_keeps, row_slot_lifted_from, row_slot-lifted_takes, row_slot-placed_keeps, placed_from, exchange_changes, exchange_cells, exchange_legal, exchange_sizes}
@@ -196,12 +196,6 @@ ways m i j a b legal row column none row_lowest column_lowest =
       b_inside = in_column.1;
       opened = column_open m i j a b legal row column in_row.0 in_column.0 (two_slots m i j a b none row_lowest column_lowest);
     }
-
-abbrev pub from_column : Matrix → ℕ → ℕ → ℕ → List Move
-from_column m j a b = chain (far_line m) (2 * m.lines) (Column j) a b
-
-abbrev pub from_row : Matrix → ℕ → ℕ → ℕ → List Move
-from_row m i a b = chain (far_line m) (2 * m.lines) (Row i) b a
 
 pub length-chains-le : (m : Matrix) (i j a b : ℕ) → Ways m i j a b → length (from_column m j a b) + length (from_row m i a b) + 2 ≤ 2 * m.lines
 length-chains-le m i j a b w = both_bound (far_line m) a b m.lines (2 * m.lines) (Column j) (Row i) w.opened

@@ -3,7 +3,7 @@
 -- rule and its chains; in terms of graphs the chains are Kempe's. The chain from a column never reaches the row in
 -- which room is made. This proves the Slepian-Duguid theorem: the slots need only be the same number as the places of a
 -- line. The choice of the shorter chain is this project's.
-use Rattle.std.specs.Prelude.{◌≡◌, ℕ, zero, suc, ◌-◌, ◌*◌, ◌++◌, Bool, nat_lt, length, if◌then◌else◌, Option, Some, None, unwrap_or, List, [], ◌∷◌, ◌≢◌, All, AllPairs}
+use Rattle.std.specs.Prelude.{◌≡◌, ℕ, zero, suc, ◌*◌, Bool, nat_lt, length, if◌then◌else◌, Option, Some, None, unwrap_or, List, [], ◌∷◌, ◌≢◌, All, AllPairs}
 use Rattle.paull_matrix.specs.Matrix.{Matrix, row_slot, column_slot, lowest_in_row, lowest_in_column, lowest_in_both, with_path, without_path}
 use Rattle.rearrange_chain.specs.declared.moves.Move.{Move}
 
@@ -34,10 +34,12 @@ abbrev pub chain : (End → ℕ → Option ℕ) → ℕ → End → ℕ → ℕ 
 chain look zero end a b = []
 chain look (suc n) end a b = elim (look end a) [ None ↦ [] | Some line ↦ move_of end line a b ∷ chain look n (far_end end line) b a ]
 
--- moves that are listed already, followed by the moves of the chain from a column, at most twice the number of lines in
--- all
-abbrev pub with_chain : Matrix → List Move → ℕ → ℕ → ℕ → List Move
-with_chain m moves j a b = moves ++ chain (far_line m) (2 * m.lines - length moves) (Column j) a b
+-- the chain from a column, and the chain from a row, each of at most twice the number of lines of paths
+abbrev pub from_column : Matrix → ℕ → ℕ → ℕ → List Move
+from_column m j a b = chain (far_line m) (2 * m.lines) (Column j) a b
+
+abbrev pub from_row : Matrix → ℕ → ℕ → ℕ → List Move
+from_row m i a b = chain (far_line m) (2 * m.lines) (Row i) b a
 
 -- the matrix without the paths that move, and with them in their new slots
 abbrev pub lifted : Matrix → List Move → Matrix

@@ -12,13 +12,10 @@ ghost use Rattle.paull_matrix.specs.Matrix.{
   IsLegal,
 };
 ghost use Rattle.rearrange_chain.specs.Chain.{
-  Row,
-  Column,
-  far_line,
-  with_chain,
+  from_row,
+  from_column,
   is_shorter,
   shorter,
-  chain,
   lifted,
   placed,
   exchanged,
@@ -48,8 +45,8 @@ use std::sync::ledger::Ledger;
 /// and the exchange. The contract proves the Slepian-Duguid theorem: a row and a column with room each can always be
 /// given a slot. This project chooses the lowest slots, and the column's chain in a tie.
 ///
-/// `steps` counts the lookups in the matrix: one for a common slot, one for `a`, one for `b`, one for each path of the
-/// two chains, and one at the end of each. Writes are not counted.
+/// `steps` counts the lookups in the matrix: one for a common slot, one for `a`, one for `b`, and one for each path of
+/// the two chains in turn, up to the end of one. Writes are not counted.
 pub fn make_room<L: Ledger>(
     matrix: &mut PaullMatrix,
     i: u8,
@@ -74,101 +71,74 @@ pub fn make_room<L: Ledger>(
     ensures common { IfSome (lowest_in_both matrix.old i j) (λ s. (result ≡ s) × (moves.new.items ≡ []) × (matrix.new ≡ matrix.old)) }
     ensures legal { IsLegal matrix.new }
     ensures sizes { SameSizes matrix.old matrix.new }
-    ensures looks { steps.new ≤ steps.old + (2 * matrix.old.lines + 3) }
+    ensures looks { steps.new ≤ steps.old + (2 * matrix.old.lines + 2) }
 {
     if let Some(common) = matrix.common_free(i, j, steps) {
         return common;
     }
     let a = matrix.free_in_row(i, steps);
     let b = matrix.free_in_column(j, steps);
-    let mut by_row = ArrayVec::new();
-    walk(matrix, j, a, b, moves, steps);
-    walk_from_row(matrix, i, a, b, &mut by_row, steps);
-    let slot = take_shorter(moves, &mut by_row, a, b);
+    let slot = list_shorter(matrix, i, j, a, b, moves, steps);
     lift_all(matrix, moves);
     place_all(matrix, moves);
     slot
 }
 
-/// Replaces the column's chain by the row's if the row's is strictly shorter, and returns the slot that the chosen
-/// chain frees in both lines.
-fn take_shorter(moves: &mut ArrayVec<Move, 66>, by_row: &mut ArrayVec<Move, 66>, a: u8, b: u8) -> u8
-    ensures moves { moves.new.items ≡ shorter by_row.old.items moves.old.items }
-    ensures slot { result ≡ if is_shorter by_row.old.items moves.old.items then b else a }
-{
-    if by_row.len() < moves.len() {
-        mem::swap(moves, by_row);
-        b
-    } else {
-        a
-    }
-}
-
-/// Lists the moves of the chain from row `i`, whose paths leave the slots `b` and `a` in turn. After its first path it
-/// is a chain from that path's column.
-fn walk_from_row<L: Ledger>(
+/// Lists the moves of the row's chain if it is strictly shorter, and otherwise of the column's. Returns the slot that
+/// the listed chain frees in both lines. It walks both chains path by path in turn, and stops at the end of one.
+fn list_shorter<L: Ledger>(
     matrix: &PaullMatrix,
     i: u8,
-    a: u8,
-    b: u8,
-    moves: &mut ArrayVec<Move, 66>,
-    steps: &mut Steps<L>,
-)
-    requires row { i < matrix.now.lines }
-    requires slots { (a < matrix.now.slots) × (b < matrix.now.slots) }
-    requires empty { moves.old.items ≡ [] }
-    requires bound { length (chain (far_line matrix.now) (2 * matrix.now.lines) (Row i) b a) + 2 ≤ 2 * matrix.now.lines }
-    requires few { matrix.now.lines ≤ 34 }
-    ensures chain { moves.new.items ≡ chain (far_line matrix.now) (2 * matrix.now.lines) (Row i) b a }
-    ensures looks { steps.new ≡ steps.old + length moves.new.items + 1 }
-{
-    let Some(column) = matrix.row_slot(i, b, steps) else {
-        return;
-    };
-    moves.push(Move {
-        row: i,
-        column,
-        old: b,
-        new: a,
-    });
-    walk(matrix, column, a, b, moves, steps);
-}
-
-/// Appends to the listed moves the moves of the chain from column `j`, whose paths leave the slots `a` and `b` in turn:
-/// from a column to a row in `a`, and on to the next column in `b`.
-fn walk<L: Ledger>(
-    matrix: &PaullMatrix,
     j: u8,
     a: u8,
     b: u8,
     moves: &mut ArrayVec<Move, 66>,
     steps: &mut Steps<L>,
-)
+) -> u8
+    requires row { i < matrix.now.lines }
     requires column { j < matrix.now.lines }
     requires slots { (a < matrix.now.slots) × (b < matrix.now.slots) }
-    requires bound { length (with_chain matrix.now moves.old.items j a b) + 2 ≤ 2 * matrix.now.lines }
+    requires empty { moves.old.items ≡ [] }
+    requires bound { length (from_column matrix.now j a b) + length (from_row matrix.now i a b) + 2 ≤ 2 * matrix.now.lines }
     requires few { matrix.now.lines ≤ 34 }
-    ensures chain { moves.new.items ≡ with_chain matrix.now moves.old.items j a b }
-    ensures looks { steps.new + length moves.old.items ≡ steps.old + length moves.new.items + 1 }
+    ensures moves { moves.new.items ≡ shorter (from_row matrix.now i a b) (from_column matrix.now j a b) }
+    ensures slot { result ≡ if is_shorter (from_row matrix.now i a b) (from_column matrix.now j a b) then b else a }
+    ensures looks { steps.new ≤ steps.old + (length (from_column matrix.now j a b) + length (from_row matrix.now i a b) + 1) }
 {
+    let mut by_row = ArrayVec::new();
+    let mut row = i;
     let mut column = j;
-    while let Some(row) = matrix.column_slot(column, a, steps) {
-        moves.push(Move {
-            row,
-            column,
-            old: a,
-            new: b,
-        });
-        let Some(next) = matrix.row_slot(row, b, steps) else {
-            return;
+    while let Some(far_row) = matrix.column_slot(column, a, steps) {
+        moves.push(to_slot(b, far_row, column, a));
+        let Some(far_column) = matrix.row_slot(row, b, steps) else {
+            mem::swap(moves, &mut by_row);
+            return b;
         };
-        moves.push(Move {
-            row,
-            column: next,
-            old: b,
-            new: a,
-        });
-        column = next;
+        by_row.push(to_slot(a, row, far_column, b));
+        let Some(next_column) = matrix.row_slot(far_row, b, steps) else {
+            return a;
+        };
+        moves.push(to_slot(a, far_row, next_column, b));
+        let Some(next_row) = matrix.column_slot(far_column, a, steps) else {
+            mem::swap(moves, &mut by_row);
+            return b;
+        };
+        by_row.push(to_slot(b, next_row, far_column, a));
+        row = next_row;
+        column = next_column;
+    }
+    a
+}
+
+/// Returns the move of a path to a slot from the slot `old`.
+fn to_slot(new: u8, row: u8, column: u8, old: u8) -> Move
+    ensures { result ≡ record { row = row; column = column; old = old; new = new } }
+{
+    Move {
+        row,
+        column,
+        old,
+        new,
     }
 }
 
