@@ -91,10 +91,10 @@ fn connect_by_moves<L: Ledger>(memory: &mut PathMemory, from: Slot, to: Slot, bl
 }
 
 // Removes the paths that move from the layout, and lists their ends.
-fn lift_all(paths: &mut PathTable, moves: &[Move], lifted: &mut ArrayVec<PathEnds, 66>)
+fn lift_all(paths: &mut PathTable, moves: &[Move], lifted: &mut ArrayVec<PathEnds, 34>)
     requires taken { AreTaken paths.old.layout moves.now (taken_by paths.old.layout moves.now) }
     requires legal { Legal paths.old.lines paths.old.slots paths.old.layout }
-    requires few { length moves.now ≤ 66 }
+    requires few { length moves.now ≤ 34 }
     requires empty { lifted.old.items ≡ [] }
     ensures lifted { lifted.new.items ≡ taken_by paths.old.layout moves.now }
     ensures layout { paths.new.layout ≡ without_all paths.old.layout (taken_by paths.old.layout moves.now) }
@@ -115,8 +115,7 @@ fn lay_all(paths: &mut PathTable, moves: &[Move], lifted: &[PathEnds])
     ensures slots { paths.new.slots ≡ paths.old.slots }
 {
     for i in 0..lifted.len() {
-        let ends = lifted[i];
-        paths.insert(ends.from, ends.to, moves[i].new);
+        paths.insert(lifted[i].from, lifted[i].to, moves[i].new);
     }
 }
 
