@@ -75,6 +75,7 @@ impl PathMemory {
 
     /// Connects a free inlet to a free outlet in the lowest internal slot that is free in both lines, and returns the
     /// slot. Returns `None` and changes nothing if and only if there is none.
+    #[inline(always)]
     pub fn connect_in_common_slot(&mut self, from: Slot, to: Slot) -> Option<u8>
         requires from { IsSlot self.old.lines from }
         requires to { IsSlot self.old.lines to }
