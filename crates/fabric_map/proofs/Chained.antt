@@ -5,7 +5,7 @@ use Rattle.control_memory.specs.Layout.{Path, Layout, Legal}
 use Rattle.control_memory.specs.Connecting.{Side, Incoming, Outgoing, across, path_at, far_line, chain}
 use Rattle.control_memory.proofs.Lookups.{IsPathOf, path_in_found, path_out_found}
 use Rattle.paull_matrix.specs.Matrix.{Matrix}
-use Rattle.rearrange_chain.specs.declared.moves.Move.{Move}
+use Rattle.paull_matrix.specs.declared.moves.Move.{Move}
 use Rattle.rearrange_chain.specs.Chain.{End, Row, Column, move_of, far_end, far_line as look_far, chain as matrix_chain}
 use Rattle.path_memory.proofs.MatrixOfLayout.{column_matches}
 use Rattle.path_memory.proofs.CommonSlot.{Beside}

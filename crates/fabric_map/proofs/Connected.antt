@@ -5,7 +5,7 @@ use Rattle.control_memory.specs.Layout.{Layout, hop_of, path_to, IsSlot, Joins, 
 use Rattle.control_memory.specs.Connecting.{IsFree}
 use Rattle.control_memory.proofs.Lookups.{path_to_is}
 use Rattle.paull_matrix.specs.Matrix.{Matrix, row_slot, column_slot, paths_of_row, paths_of_column}
-use Rattle.rearrange_chain.specs.declared.moves.Move.{Move}
+use Rattle.paull_matrix.specs.declared.moves.Move.{Move}
 use Rattle.rearrange_chain.specs.Chain.{slot_for, moves_for, exchanged}
 use Rattle.control_memory.specs.declared.path_ends.PathEnds.{PathEnds}
 use Rattle.control_memory.specs.Paths.{Fabric}

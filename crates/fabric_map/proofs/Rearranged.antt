@@ -9,9 +9,9 @@ use Rattle.control_memory.proofs.Lookups.{path_in_found}
 use Rattle.control_memory.proofs.Steps.{IsNew, new_or_old, legal_with, legal_without, hop_else, was_there}
 use Rattle.paull_matrix.specs.Matrix.{Matrix, row_slot, column_slot, with_path as with_entry, without_path as without_entry}
 use Rattle.paull_matrix.proofs.Laws.{legal_without as legal_matrix_without, legal_with as legal_matrix_with}
-use Rattle.rearrange_chain.specs.declared.moves.Move.{Move}
+use Rattle.paull_matrix.specs.declared.moves.Move.{Move}
 use Rattle.rearrange_chain.specs.Chain.{lifted, placed}
-use Rattle.rearrange_chain.specs.InTurn.{CanLift, CanPlace}
+use Rattle.paull_matrix.specs.InTurn.{CanLift, CanPlace}
 use Rattle.control_memory.specs.declared.path_ends.PathEnds.{PathEnds}
 use Rattle.path_memory.specs.Matching.{IsMatrixOf}
 use Rattle.fabric_map.specs.Rearranging.{without_all, AreTaken, laid, CanLay}

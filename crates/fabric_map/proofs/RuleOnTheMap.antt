@@ -9,7 +9,7 @@ use Rattle.control_memory.specs.Layout.{Path, Layout, hop_of, IsSlot, Joins}
 use Rattle.control_memory.specs.Connecting.{Incoming, Outgoing, exchanged, with_path, without_path, connect, connect_in, joined_after, takes_row, common_slot, first_unreceived, moved, row_chain as paths_of_row_chain, column_chain as paths_of_column_chain}
 use Rattle.paull_matrix.specs.Matrix.{Matrix, lowest_in_row, lowest_in_column, lowest_in_both, paths_of_row, paths_of_column}
 use Rattle.paull_matrix.proofs.Laws.{row_lacks_one, column_lacks_one}
-use Rattle.rearrange_chain.specs.declared.moves.Move.{Move}
+use Rattle.paull_matrix.specs.declared.moves.Move.{Move}
 use Rattle.rearrange_chain.specs.Chain.{Column, slot_for, slot_by, moves_for, moves_by, slot_a, slot_b, column_chain, row_chain, is_shorter, Row, lifted, far_line as look_far, chain as matrix_chain, exchanged as exchanged_matrix}
 use Rattle.rearrange_chain.proofs.Exchange.{IsExchange, exchange_lifts, exchange_places, lifted_lines}
 use Rattle.rearrange_chain.proofs.Freed.{chain_exchanges, Ways, ways}

@@ -5,7 +5,7 @@ use Rattle.std.specs.List.{range_with_len}
 use Rattle.control_memory.specs.Layout.{Layout}
 use Rattle.control_memory.specs.Connecting.{without_path, first_unsent, first_unreceived, is_unsent, is_unreceived}
 use Rattle.paull_matrix.specs.Matrix.{Matrix, is_free_in_row, is_free_in_column}
-use Rattle.rearrange_chain.specs.declared.moves.Move.{Move}
+use Rattle.paull_matrix.specs.declared.moves.Move.{Move}
 use Rattle.rearrange_chain.specs.Chain.{slot_a, slot_b}
 use Rattle.control_memory.specs.declared.path_ends.PathEnds.{PathEnds}
 use Rattle.fabric_map.specs.Rearranging.{AreTaken, taken_by}

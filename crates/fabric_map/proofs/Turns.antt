@@ -1,7 +1,7 @@
 -- What a turn of the loops over moves needs of its move.
 use Rattle.std.proofs.Common.{ℕ, zero, suc, ◌<◌, List, [], ◌∷◌, length, get_or, drop, arith}
 use Rattle.control_memory.specs.Layout.{Layout, Legal}
-use Rattle.rearrange_chain.specs.declared.moves.Move.{Move}
+use Rattle.paull_matrix.specs.declared.moves.Move.{Move}
 use Rattle.control_memory.specs.declared.path_ends.PathEnds.{PathEnds}
 use Rattle.fabric_map.specs.Rearranging.{AreTaken, CanLay}
 use Rattle.control_memory.proofs.TablesAfter.{line_inside, slot_inside}

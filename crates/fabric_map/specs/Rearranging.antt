@@ -2,7 +2,7 @@
 use Rattle.std.specs.Prelude.{◌≡◌, ℕ, ◌<◌, ⊤, Option, Some, None, List, [], ◌∷◌}
 use Rattle.control_memory.specs.Layout.{Path, Layout, path_in, IsSlot}
 use Rattle.control_memory.specs.Connecting.{with_path, without_path, IsFree}
-use Rattle.rearrange_chain.specs.declared.moves.Move.{Move}
+use Rattle.paull_matrix.specs.declared.moves.Move.{Move}
 use Rattle.control_memory.specs.declared.path_ends.PathEnds.{PathEnds}
 use Rattle.control_memory.specs.Paths.{ends_of}
 

@@ -4,7 +4,7 @@ ghost use Rattle.circuit_model.specs.declared.channel.Slot.{Slot};
 ghost use Rattle.control_memory.specs.Layout.{Layout, Legal, IsSlot, Joins, hop_of, path_to};
 ghost use Rattle.control_memory.specs.Connecting.{connect as joined, moved};
 ghost use Rattle.fabric_map.specs.Map.{max_moves};
-ghost use Rattle.rearrange_chain.specs.declared.moves.Move.{Move};
+ghost use Rattle.paull_matrix.specs.declared.moves.Move.{Move};
 ghost use Rattle.control_memory.specs.declared.path_ends.PathEnds.{PathEnds};
 ghost use Rattle.control_memory.specs.Paths.{Fabric};
 ghost use Rattle.fabric_map.specs.Rearranging.{without_all, AreTaken, taken_by, laid, CanLay};

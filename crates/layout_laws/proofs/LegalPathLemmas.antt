@@ -7,7 +7,7 @@ use Rattle.control_memory.specs.Connecting.{with_path, without_path, connect}
 use Rattle.paull_matrix.specs.Matrix.{Matrix, row_slot, column_slot, is_free_in_row, is_free_in_column, lowest_in_row, lowest_in_column, lowest_in_both, paths_of_row, paths_of_column, SameSizes, with_path as with_entry, without_path as without_entry}
 use Rattle.paull_matrix.proofs.Laws.{legal_with as legal_matrix_with, row_has_room, column_has_room, row_lacks_one, column_lacks_one, lowest_in_row_is, lowest_in_column_is, lowest_in_both_is}
 use Rattle.paull_matrix.proofs.Numbers.{lowest_none}
-use Rattle.rearrange_chain.specs.declared.moves.Move.{Move}
+use Rattle.paull_matrix.specs.declared.moves.Move.{Move}
 use Rattle.rearrange_chain.specs.Chain.{exchanged, is_shorter, moves_by, moves_for, slot_a, slot_b, slot_by, slot_for, row_chain, column_chain}
 use Rattle.rearrange_chain.proofs.Freed.{rearranges_shorter, ways}
 use Rattle.path_memory.specs.Memory.{IsPathMemory}

@@ -4,3 +4,4 @@ pub mod Pigeonhole
 pub mod Laws
 pub mod Marks
 pub mod Tables
+pub mod TurnLemmas

@@ -2,3 +2,4 @@ pub mod Numbers
 pub mod Matrix
 pub mod Marks
 pub mod Tabled
+pub mod InTurn

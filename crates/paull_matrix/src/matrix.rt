@@ -18,7 +18,10 @@ ghost use Rattle.paull_matrix.specs.Matrix.{
   without_path,
   IsLegal,
 };
+ghost use Rattle.paull_matrix.specs.InTurn.{lifted, placed, CanLift, CanPlace};
+ghost use Rattle.paull_matrix.specs.Tabled.{tabled, IsKept};
 
+use crate::moves::Move;
 use crate::steps::Steps;
 use std::alloc::{AllocError, Global};
 use std::marker::Model;
@@ -171,6 +174,82 @@ impl PaullMatrix {
         unmark(&mut self.row_words, i, s);
         unmark(&mut self.column_words, j, s);
     }
+
+    /// Removes every path that moves from its old slot.
+    pub fn lift_all(&mut self, moves: &[Move])
+        requires stand { CanLift self.old moves.now }
+        ensures lifted { self.new ≡ lifted self.old moves.now }
+        ensures legal { IsLegal self.new }
+    {
+        lift_each(
+            &mut self.columns,
+            &mut self.rows,
+            &mut self.row_words,
+            &mut self.column_words,
+            self.slots,
+            moves,
+        );
+    }
+
+    /// Puts every path that moves into its new slot.
+    pub fn place_all(&mut self, moves: &[Move])
+        requires room { CanPlace self.old moves.now }
+        ensures placed { self.new ≡ placed self.old moves.now }
+        ensures legal { IsLegal self.new }
+    {
+        place_each(
+            &mut self.columns,
+            &mut self.rows,
+            &mut self.row_words,
+            &mut self.column_words,
+            self.slots,
+            moves,
+        );
+    }
+}
+
+/// Removes every path that moves from the tables and the words.
+fn lift_each(
+    columns: &mut [Option<u8>],
+    rows: &mut [Option<u8>],
+    row_words: &mut [u64],
+    column_words: &mut [u64],
+    slots: u8,
+    moves: &[Move],
+)
+    requires kept { IsKept (length row_words.old) slots columns.old rows.old row_words.old column_words.old }
+    requires stand { CanLift (tabled (length row_words.old) slots columns.old) moves.now }
+    ensures kept { IsKept (length row_words.old) slots columns.new rows.new row_words.new column_words.new }
+    ensures lifted { tabled (length row_words.old) slots columns.new ≡ lifted (tabled (length row_words.old) slots columns.old) moves.now }
+{
+    for moved in moves {
+        columns[place_of(slots, moved.row, moved.old)] = None;
+        rows[place_of(slots, moved.column, moved.old)] = None;
+        unmark_in(row_words, moved.row, moved.old);
+        unmark_in(column_words, moved.column, moved.old);
+    }
+}
+
+/// Puts every path that moves into the tables and the words.
+fn place_each(
+    columns: &mut [Option<u8>],
+    rows: &mut [Option<u8>],
+    row_words: &mut [u64],
+    column_words: &mut [u64],
+    slots: u8,
+    moves: &[Move],
+)
+    requires kept { IsKept (length row_words.old) slots columns.old rows.old row_words.old column_words.old }
+    requires room { CanPlace (tabled (length row_words.old) slots columns.old) moves.now }
+    ensures kept { IsKept (length row_words.old) slots columns.new rows.new row_words.new column_words.new }
+    ensures placed { tabled (length row_words.old) slots columns.new ≡ placed (tabled (length row_words.old) slots columns.old) moves.now }
+{
+    for moved in moves {
+        columns[place_of(slots, moved.row, moved.new)] = Some(moved.column);
+        rows[place_of(slots, moved.column, moved.new)] = Some(moved.row);
+        mark_in(row_words, moved.row, moved.new);
+        mark_in(column_words, moved.column, moved.new);
+    }
 }
 
 /// Returns the lowest slot whose bit is clear in a word. `None` if and only if each is set.
@@ -184,6 +263,24 @@ fn lowest_missing(word: u64, slots: u8) -> Option<u8>
     } else {
         None
     }
+}
+
+/// Sets the bit of a slot in a line's word.
+fn mark_in(words: &mut [u64], line: u8, s: u8)
+    requires line { line < length words.old }
+    requires slot { s < 59 }
+    ensures set { words.new ≡ marked words.old line s }
+{
+    words[usize::from(line)] |= 1 << s;
+}
+
+/// Clears the bit of a slot in a line's word.
+fn unmark_in(words: &mut [u64], line: u8, s: u8)
+    requires line { line < length words.old }
+    requires slot { s < 59 }
+    ensures cleared { words.new ≡ unmarked words.old line s }
+{
+    words[usize::from(line)] &= !(1 << s);
 }
 
 /// Sets the bit of a slot in a line's word.

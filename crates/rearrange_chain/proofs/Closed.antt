@@ -6,7 +6,7 @@ use Rattle.std.proofs.lemmas.Bool.{cases_lt}
 use Rattle.std.proofs.lemmas.Bool.Decides.{nat_tests}
 use Rattle.std.proofs.lemmas.Option.{same_Some}
 use mathlib.Core.Logic.{inl, inr}
-use Rattle.rearrange_chain.specs.declared.moves.Move.{Move}
+use Rattle.paull_matrix.specs.declared.moves.Move.{Move}
 use Rattle.rearrange_chain.specs.Chain.{End, Row, Column, far_end, move_of}
 use Rattle.paull_matrix.proofs.Pigeonhole.{pigeonhole}
 use Rattle.rearrange_chain.proofs.Walk.{line_of, leave, enter, step, end_at, IsMirrored, IsWithin, IsEndOf, own_chain, then_cases, map_cases, entered_by, far_end_turned, end_at_next, is_step, slice_get-own_chain_has_step, end_cases, move_of_old, move_of_new, chain_length, comes_to_ends, never_comes_to, no_meeting, no_return, been_before, line_of_end_within, number, number_below, number_same, numbered, numbered_is}

@@ -8,9 +8,9 @@ use Rattle.std.proofs.lemmas.Option.{same_Some, slice_get-get_or, get_or_from_sl
 use mathlib.Core.Logic.{inl, inr}
 use Rattle.paull_matrix.specs.Matrix.{Matrix, row_slot, with_path, without_path, paths_of_cell, SameSizes, IsLegal}
 use Rattle.paull_matrix.proofs.Laws.{row_slot-with_path_here, row_slot-with_path_other, row_slot-without_path_here, row_slot-without_path_other, here_or_other, new_or_old, row_slot_stood_before, legal_with, legal_without, no_column, cell_differs}
-use Rattle.rearrange_chain.specs.declared.moves.Move.{Move}
+use Rattle.paull_matrix.specs.declared.moves.Move.{Move}
 use Rattle.rearrange_chain.specs.Chain.{lifted, placed, exchanged, ChangesBy}
-use Rattle.rearrange_chain.specs.InTurn.{CanLift, CanPlace}
+use Rattle.paull_matrix.specs.InTurn.{CanLift, CanPlace}
 
 -- in a list of moves no path of a row leaves a slot; no path of a row comes to a slot
 abbrev pub LeavesNone : List Move → ℕ → ℕ → Type 0

@@ -3,7 +3,7 @@ use Rattle.std.proofs.Common.{◌≡◌, ℕ, zero, suc, ◌+◌, ◌-◌, ◌*�
 use Rattle.std.specs.Prelude.{if◌then◌else◌}
 use Rattle.std.proofs.lemmas.Bool.Decides.{nat_tests}
 use Rattle.paull_matrix.specs.Matrix.{Matrix, column_slot, IsLegal}
-use Rattle.rearrange_chain.specs.declared.moves.Move.{Move}
+use Rattle.paull_matrix.specs.declared.moves.Move.{Move}
 use Rattle.rearrange_chain.specs.Chain.{End, Column, far_end, far_line, move_of, chain, from_row, from_column, is_shorter, shorter}
 use Rattle.rearrange_chain.proofs.Freed.{lines_within}
 

@@ -4,8 +4,9 @@
 -- which room is made. This proves the Slepian-Duguid theorem: the slots need only be the same number as the places of a
 -- line. The choice of the shorter chain is this project's.
 use Rattle.std.specs.Prelude.{◌≡◌, ℕ, zero, suc, ◌*◌, Bool, nat_lt, length, if◌then◌else◌, Option, Some, None, unwrap_or, List, [], ◌∷◌, ◌≢◌, All, AllPairs}
-use Rattle.paull_matrix.specs.Matrix.{Matrix, row_slot, column_slot, lowest_in_row, lowest_in_column, lowest_in_both, with_path, without_path}
-use Rattle.rearrange_chain.specs.declared.moves.Move.{Move}
+use Rattle.paull_matrix.specs.Matrix.{Matrix, row_slot, column_slot, lowest_in_row, lowest_in_column, lowest_in_both}
+use Rattle.paull_matrix.specs.declared.moves.Move.{Move}
+pub use Rattle.paull_matrix.specs.InTurn.{lifted, placed}
 
 -- one end of a path: its row or its column
 pub data End : Type 0 where
@@ -40,15 +41,6 @@ from_column m j a b = chain (far_line m) (2 * m.lines) (Column j) a b
 
 abbrev pub from_row : Matrix → ℕ → ℕ → ℕ → List Move
 from_row m i a b = chain (far_line m) (2 * m.lines) (Row i) b a
-
--- the matrix without the paths that move, and with them in their new slots
-abbrev pub lifted : Matrix → List Move → Matrix
-lifted m [] = m
-lifted m (v ∷ moves) = lifted (without_path m v.row v.old) moves
-
-abbrev pub placed : Matrix → List Move → Matrix
-placed m [] = m
-placed m (v ∷ moves) = placed (with_path m v.row v.column v.new) moves
 
 -- the matrix after simultaneous moves
 abbrev pub exchanged : Matrix → List Move → Matrix

@@ -10,8 +10,7 @@
 //! Slepian-Duguid theorem there is always room.
 #![tactic(auto)]
 
-mod moves;
 mod room;
 
-pub use moves::Move;
+pub use paull_matrix::Move;
 pub use room::make_room;

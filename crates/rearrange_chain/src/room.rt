@@ -16,18 +16,14 @@ ghost use Rattle.rearrange_chain.specs.Chain.{
   from_column,
   is_shorter,
   shorter,
-  lifted,
-  placed,
   exchanged,
   slot_for,
   moves_for,
   ChangesBy,
 };
-ghost use Rattle.rearrange_chain.specs.InTurn.{CanLift, CanPlace};
 
-use crate::moves::Move;
 use arrayvec::ArrayVec;
-use paull_matrix::{PaullMatrix, Steps};
+use paull_matrix::{Move, PaullMatrix, Steps};
 use std::mem;
 use std::sync::ledger::Ledger;
 
@@ -79,8 +75,8 @@ pub fn make_room<L: Ledger>(
     let a = matrix.free_in_row(i, steps);
     let b = matrix.free_in_column(j, steps);
     let slot = list_shorter(matrix, i, j, a, b, moves, steps);
-    lift_all(matrix, moves);
-    place_all(matrix, moves);
+    matrix.lift_all(moves);
+    matrix.place_all(moves);
     slot
 }
 
@@ -139,25 +135,5 @@ fn to_slot(new: u8, row: u8, column: u8, old: u8) -> Move
         column,
         old,
         new,
-    }
-}
-
-/// Removes every path that moves from its old slot.
-fn lift_all(matrix: &mut PaullMatrix, moves: &[Move])
-    requires stand { CanLift matrix.old moves.now }
-    ensures lifted { matrix.new ≡ lifted matrix.old moves.now }
-{
-    for moved in moves {
-        matrix.lift(moved.row, moved.column, moved.old);
-    }
-}
-
-/// Puts every path that moves into its new slot.
-fn place_all(matrix: &mut PaullMatrix, moves: &[Move])
-    requires room { CanPlace matrix.old moves.now }
-    ensures placed { matrix.new ≡ placed matrix.old moves.now }
-{
-    for moved in moves {
-        matrix.place(moved.row, moved.column, moved.new);
     }
 }

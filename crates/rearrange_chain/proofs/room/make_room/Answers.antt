@@ -2,7 +2,7 @@ use Rattle.std.proofs.Common.{◌≡◌, refl, sym, subst, ◌∙◌, rules, ari
 use Rattle.paull_matrix.specs.Matrix.{Matrix}
 use Rattle.paull_matrix.proofs.Laws.{lowest_in_both_is}
 use Rattle.rearrange_chain.specs.Chain.{exchanged}
-use Rattle.rearrange_chain.specs.InTurn.{CanLift}
+use Rattle.paull_matrix.specs.InTurn.{CanLift}
 use Rattle.rearrange_chain.proofs.Exchange.{exchange_lifts, exchange_places}
 use Rattle.rearrange_chain.proofs.Freed.{Rearranged, ways, length-chains-le, shorter_room, rearranges_shorter}
 use Rattle.rearrange_chain.proofs.room.make_room.Goals as goal
@@ -42,10 +42,10 @@ place_all-requires g c =
     }
 
 -- what is there in the end
-after : (g : Over) (c : After-place_all g) → Rearranged c.args.matrix.now c.place_all.new.matrix c.args.i c.args.j c.list_shorter-slot.result c.list_shorter-slot.new.moves.items
+after : (g : Over) (c : After-place_all g) → Rearranged c.args.matrix.now c.place_all.new.self c.args.i c.args.j c.list_shorter-slot.result c.list_shorter-slot.new.moves.items
 after g c =
     let done = rearranges_shorter c.args.matrix.now c.args.i c.args.j c.free_in_row-a.result c.free_in_column-b.result c.list_shorter-slot.result c.list_shorter-slot.new.moves.items (ways c.args.matrix.now c.args.i c.args.j c.free_in_row-a.result c.free_in_column-b.result c.free_in_row-a.ensures.legal c.requires.row c.requires.column (search rules) c.free_in_row-a.ensures.lowest c.free_in_column-b.ensures.lowest) c.list_shorter-slot.ensures.moves c.list_shorter-slot.ensures.slot in
-    let is : c.place_all.new.matrix ≡ exchanged c.args.matrix.now c.list_shorter-slot.new.moves.items = c.place_all.ensures.placed ∙ rw (c.lift_all.ensures.lifted, c.deref.ensures.0, c.deref-2.ensures.0) refl in
+    let is : c.place_all.new.self ≡ exchanged c.args.matrix.now c.list_shorter-slot.new.moves.items = c.place_all.ensures.placed ∙ rw (c.lift_all.ensures.lifted, c.deref.ensures.0, c.deref-2.ensures.0) refl in
     subst (λ (m : Matrix). Rearranged c.args.matrix.now m c.args.i c.args.j c.list_shorter-slot.result c.list_shorter-slot.new.moves.items) (sym is) done
 
 pub returns-clause-changes : goal.returns-clause-changes

@@ -1,7 +1,16 @@
 -- Moves that can be made in sequence.
 use Rattle.std.specs.Prelude.{◌≡◌, ◌<◌, ⊤, Some, None, List, [], ◌∷◌}
 use Rattle.paull_matrix.specs.Matrix.{Matrix, row_slot, column_slot, with_path, without_path}
-use Rattle.rearrange_chain.specs.declared.moves.Move.{Move}
+use Rattle.paull_matrix.specs.declared.moves.Move.{Move}
+
+-- the matrix without the paths that move, and with them in their new slots
+abbrev pub lifted : Matrix → List Move → Matrix
+lifted m [] = m
+lifted m (v ∷ moves) = lifted (without_path m v.row v.old) moves
+
+abbrev pub placed : Matrix → List Move → Matrix
+placed m [] = m
+placed m (v ∷ moves) = placed (with_path m v.row v.column v.new) moves
 
 -- each path to be moved is in its old slot after the moves before it
 abbrev pub CanLift : Matrix → List Move → Type 0
