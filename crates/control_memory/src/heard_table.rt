@@ -185,12 +185,16 @@ fn copy_row(to: &mut Vec<HeardWord>, from: &[HeardWord], line: u8)
     copy_words(&mut to[start..end], &from[start..end]);
 }
 
-// Copies words one by one.
+// Copies the words of a line in pairs. Both words of a pair are read before one is written, so that they move at once.
 fn copy_words(to: &mut [HeardWord], from: &[HeardWord])
-    requires { length from.now ≡ length to.old }
+    requires to { length to.old ≡ 30 }
+    requires from { length from.now ≡ 30 }
     ensures { to.new ≡ from.now }
 {
-    for (at, word) in to.iter_mut().enumerate() {
-        *word = from[at].copied();
+    for pair in 0..15usize {
+        let even = from[2 * pair].copied();
+        let odd = from[2 * pair + 1].copied();
+        to[2 * pair] = even;
+        to[2 * pair + 1] = odd;
     }
 }

@@ -24,12 +24,16 @@ pub struct HeardWord {
 }
 
 impl Model for HeardWord {
+    ghost use Rattle.std.specs.Prelude.{◌<◌};
     ghost use Rattle.control_memory.specs.declared.heard.Heard.{Heard};
     ghost use Rattle.control_memory.specs.HeardWords.{heard_in};
 
     ghost Value = { Heard };
 
     ghost view = { λ w. heard_in w.number };
+
+    // As a signed number it is the same, and two of those compare in one instruction of vector code.
+    ghost invariant = { λ w. w.number < 9223372036854775808 };
 }
 
 impl Clone for HeardWord {
@@ -99,6 +103,6 @@ impl HeardWord {
     pub fn is_path_before(&self, frame: u32) -> bool
         ensures { result ≡ is_path_before frame self.now }
     {
-        self.number < u64::from(frame)
+        (self.number as i64) < i64::from(frame)
     }
 }

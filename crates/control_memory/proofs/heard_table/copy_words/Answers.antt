@@ -5,4 +5,4 @@ use Rattle.control_memory.proofs.heard_table.copy_words.Goals as goal
 
 pub returns : goal.returns
 returns c =
-    ext_get_or Silent c.loop-at.to c.args.from.now (c.loop-at.auto.to ∙ sym c.requires) (λ k inside. c.loop-at.invariant k (omega (arith, inside, c.loop-at.auto, c.loop-at-test.false)))
+    ext_get_or Silent c.loop-pair.to c.args.from.now (c.loop-pair.invariant.size ∙ sym c.requires.from) (λ k inside. c.loop-pair.invariant.copied k (omega (arith, inside, c.loop-pair.invariant.size, c.loop-pair-test.false)))
