@@ -1,9 +1,10 @@
 //! The idle octet over a whole row.
 
-ghost use Rattle.std.specs.Prelude.{◌≡◌, ℕ, ◌<◌, length, slice_index};
+ghost use Rattle.std.specs.Prelude.{◌≡◌, ℕ, ◌+◌, ◌<◌, ◌≤◌, IsTrue, length, slice_index};
 ghost use Rattle.circuit_model.specs.FrameInput.{idle_octet};
 
 use circuit_model::IDLE;
+use std::simd::prelude::*;
 
 /// Writes the idle octet over a row.
 pub fn fill_idle(row: &mut [u8])
@@ -11,4 +12,23 @@ pub fn fill_idle(row: &mut [u8])
     ensures octets { (at : ℕ) → at < length row.new → slice_index row.new at ≡ idle_octet }
 {
     row.fill(IDLE);
+}
+
+/// Returns true only if all 30 octets of a row are idle.
+#[inline(always)]
+pub fn is_idle(row: &[u8]) -> bool
+    requires { length row.now ≡ 30 }
+    ensures { IsTrue result → (at : ℕ) → at < 30 → slice_index row.now at ≡ idle_octet }
+{
+    are_idle(row, 0) && are_idle(row, 14)
+}
+
+// Returns true only if 16 octets of a row, from one on, are idle. They are compared at once.
+#[inline(always)]
+fn are_idle(row: &[u8], from: usize) -> bool
+    requires { from + 16 ≤ length row.now }
+    ensures { IsTrue result → (at : ℕ) → from ≤ at → at < from + 16 → slice_index row.now at ≡ idle_octet }
+{
+    let differs = u8x16::from_slice(&row[from..]).simd_ne(u8x16::splat(IDLE));
+    differs.to_bitmask() == 0
 }

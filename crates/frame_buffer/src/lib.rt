@@ -20,5 +20,5 @@ pub use crossed::Crossed;
 pub use delay_line::DelayLine;
 pub use halves::MIN_HALF_OCTETS;
 pub use highway::Highway;
-pub use idle::fill_idle;
+pub use idle::{fill_idle, is_idle};
 pub use memory::FrameBuffer;

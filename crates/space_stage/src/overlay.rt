@@ -1,6 +1,6 @@
 //! The crossing of a frame in which few lines send: their octets are laid over idle rows.
 
-ghost use Rattle.std.specs.Prelude.{if◌then◌else◌, ◌≡◌, ◌==◌, ℕ, ◌+◌, ◌<◌, ◌≤◌, IfSome, IsTrue, length, slice_index};
+ghost use Rattle.std.specs.Prelude.{if◌then◌else◌, ◌≡◌, ◌==◌, ℕ, ◌+◌, ◌<◌, ◌≤◌, IfSome, length, slice_index};
 ghost use Rattle.circuit_model.specs.FrameInput.{idle_octet};
 ghost use Rattle.frame_buffer.specs.Highways.{IsPart, RowsHold, octet_on};
 ghost use Rattle.control_memory.specs.Tables.{HasSize};
@@ -8,7 +8,7 @@ ghost use Rattle.space_stage.specs.Crossing.{gets_by, AreSenders, IsLaid};
 
 use circuit_model::IDLE;
 use control_memory::ControlTable;
-use frame_buffer::Highway;
+use frame_buffer::{Highway, is_idle};
 use std::simd::prelude::*;
 
 /// The maximum number of lines whose octets are laid over idle rows. If more lines send, gathering takes less time.
@@ -42,29 +42,6 @@ fn sent_row(highway: &Highway, line: u8) -> &[u8]
 {
     let start = (usize::from(line) + 1) * 30;
     &highway.rows_with_idle_first()[start..start + 30]
-}
-
-// Returns true only if all octets of a row are idle.
-fn is_idle(octets: &[u8]) -> bool
-    requires { length octets.now ≡ 30 }
-    ensures { IsTrue result → (at : ℕ) → at < 30 → slice_index octets.now at ≡ idle_octet }
-{
-    match octets.first_chunk::<30>() {
-        Some(row) => is_row_idle(row),
-        None => false,
-    }
-}
-
-// Returns true only if all octets of a row are idle. Every octet is tested, many at once.
-#[inline(always)]
-fn is_row_idle(row: &[u8; 30]) -> bool
-    ensures { IsTrue result → (at : ℕ) → at < 30 → slice_index row.now at ≡ idle_octet }
-{
-    let mut all = true;
-    for octet in row {
-        all &= *octet == IDLE;
-    }
-    all
 }
 
 // Crosses the octets of the lines that send to some outgoing lines whose rows are idle.

@@ -1,6 +1,6 @@
 //! The time slot interchange on both sides of the space stage.
 
-ghost use Rattle.std.specs.Prelude.{◌≡◌, ℕ, ◌<◌, length, slice_index};
+ghost use Rattle.std.specs.Prelude.{◌≡◌, ℕ, ◌<◌, IsTrue, length, slice_index};
 ghost use Rattle.circuit_model.specs.FrameInput.{idle_octet};
 ghost use Rattle.frame_buffer.specs.Highways.{SameHighwaySize, IsPart, RowsHold};
 ghost use Rattle.control_memory.specs.Tables.{HasSize};
@@ -10,7 +10,7 @@ ghost use Rattle.time_stage.specs.Interchange.{reads_by, sends_by, sends, reads,
 use crate::store::{Store, fetch_thirty};
 use circuit_model::CHANNELS_PER_LINE;
 use control_memory::{ControlTable, Image};
-use frame_buffer::{Crossed, FrameBuffer, Highway, fill_idle};
+use frame_buffer::{Crossed, FrameBuffer, Highway, fill_idle, is_idle};
 
 /// Performs the incoming time stage of one frame: each line sends in each internal slot the octet of the place in its
 /// control table's entry, out of the half of the buffer that is read. It sends the idle octet if there is no entry.
@@ -54,7 +54,7 @@ fn send_used(buffer: &FrameBuffer, table: &ControlTable, slots: u8, first: u8, p
     let mut store = Store::new();
     let slots = usize::from(slots);
     for line in first..table.used_rows() {
-        if table.is_known_empty(line) {
+        if sends_nothing(buffer, table, line) {
             continue;
         }
         let start = usize::from(line - first) * slots;
@@ -63,6 +63,19 @@ fn send_used(buffer: &FrameBuffer, table: &ControlTable, slots: u8, first: u8, p
             send_row(buffer, table, line, &mut store, row);
         }
     }
+}
+
+// Returns true only if a line sends nothing but idle octets: it has no path, or, in a fabric of 30 internal slots, only
+// idle octets arrived on it.
+#[inline(always)]
+fn sends_nothing(buffer: &FrameBuffer, table: &ControlTable, line: u8) -> bool
+    requires lines { buffer.now.lines ≡ table.now.rows }
+    requires limit { table.now.limit ≡ 30 }
+    requires line { line < table.now.rows }
+    ensures { IsTrue result → (slot : ℕ) → slot < table.now.columns → sends_by table.now buffer.now line slot ≡ idle_octet }
+{
+    let places = table.row(line);
+    table.is_known_empty(line) || (places.len() == 30 && is_idle(buffer.row(line)))
 }
 
 // Writes the octets that one line sends.

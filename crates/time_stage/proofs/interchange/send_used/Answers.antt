@@ -11,8 +11,8 @@ use Rattle.time_stage.proofs.interchange.send_used.Goals.{then-start-part, else-
 pub slice_bounds-row-end : goal.slice_bounds-row-end
 slice_bounds-row-end c = let fits = row_fits (length c.loop-line.part) c.requires.part.rows c.args.slots (c.loop-line.line - c.args.first) (search rules) (search rules) in search (rules, fits)
 
-pub loop-line-preserved-then-is_known_empty : goal.loop-line-preserved-then-is_known_empty
-loop-line-preserved-then-is_known_empty c =
+pub loop-line-preserved-then-sends_nothing : goal.loop-line-preserved-then-sends_nothing
+loop-line-preserved-then-sends_nothing c =
     let slots = c.args.slots in
     let octet = sends_by c.args.table.now c.args.buffer.now in
     let line = c.loop-line.line in
@@ -21,7 +21,7 @@ loop-line-preserved-then-is_known_empty c =
     record {
       size = c.loop-line.invariant.size;
       done = written_idle slots octet c.args.first line part c.loop-line.auto.line c.loop-line.invariant.done c.requires.part.rows whole
-          (λ at near. ap (λ (o : Option ℕ). fetched o (λ place. octet_in_half c.args.buffer.now.readable (record { line = line; place = place }))) (c.is_known_empty.ensures c.if-is_known_empty.true at (search (rules, near))));
+          (λ at near. c.sends_nothing.ensures c.if-sends_nothing.true at (search (rules, near)));
     }
 
 pub loop-line-preserved : goal.loop-line-preserved
