@@ -4,5 +4,6 @@ pub mod PortRows
 pub mod RoomSums
 pub mod ReadOut
 pub mod Frame
+pub mod QuietFrames
 pub mod GivenTones
 pub mod ToneBits

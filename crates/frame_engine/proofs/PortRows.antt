@@ -10,6 +10,7 @@ use Rattle.control_memory.specs.Image.{Control, room_at}
 use Rattle.conference_mix.specs.declared.mixer.RoomMember.{RoomMember}
 use Rattle.conference_mix.specs.Bridge.{mixed_for}
 use Rattle.conference_mix.specs.Rooms.{counted_in, room_row, given_to_member}
+use Rattle.frame_engine.proofs.MemberPorts.{room_at-port_numbered}
 use Rattle.frame_engine.specs.Ports.{seated_by, member_in, members_in_ports, given_to}
 
 -- what the member in a port adds to a room
@@ -43,6 +44,10 @@ pub given_to-seat : (m : Control) (octet : Slot → ℕ) (k : ℕ) → k < 30 * 
 given_to-seat m octet k low =
     ap (given_to_member (members_in_ports m octet) k) (get_or-map-range_with_len (member_in m octet) 0 (30 * m.bridges) k k None low (omega arith))
     ∙ by_seat m octet k (octet (port_numbered m.external k)) (room_at m (port_numbered m.external k))
+
+-- a port without a member gets the idle octet
+pub given_to-vacant : (m : Control) (octet : Slot → ℕ) (k : ℕ) → k < 30 * m.bridges → get_or m.rooms k None ≡ None → given_to m octet k ≡ idle_octet
+given_to-vacant m octet k low none = given_to-seat m octet k low ∙ ap (mixed_to m octet k) (room_at-port_numbered m k ∙ none)
 
 -- there is a place for each port
 pub members-length : (m : Control) (octet : Slot → ℕ) → length (members_in_ports m octet) ≡ 30 * m.bridges

@@ -1,5 +1,5 @@
 -- When an engine rests: all its octets are idle, and none arrives. Source: this project.
-use Rattle.std.specs.Prelude.{◌≡◌, ℕ, ◌≤◌, ◌<◌, List, length}
+use Rattle.std.specs.Prelude.{◌≡◌, ℕ, ◌*◌, ◌≤◌, ◌<◌, List, length, None, slice_index_or}
 use Rattle.circuit_model.specs.declared.channel.Slot.{Slot}
 use Rattle.circuit_model.specs.FrameInput.{Input, idle_octet, octet_in}
 use Rattle.frame_buffer.specs.Speech.{AllIdle, octet_in_half}
@@ -13,15 +13,15 @@ use Rattle.frame_engine.specs.Playing.{played_at}
 abbrev pub SendsNothing : Input → Type 0
 SendsNothing input = (at : Slot) → at.line < length input → octet_in input at ≡ idle_octet
 
--- nothing is stored in a frame but the idle octet: there is no bridge, and only idle octets arrive
-pub record IsQuiet (bridges : ℕ) (input : Input) : Type 0 where
-  pub none : bridges ≡ 0
+-- nothing is stored in a frame but the idle octet: no conference port has a member, and only idle octets arrive
+pub record IsQuiet (m : Control) (input : Input) : Type 0 where
+  pub vacant : (k : ℕ) → k < 30 * m.bridges → slice_index_or m.rooms k None ≡ None
   pub idle : SendsNothing input
 
--- the number of frames until an engine rests, before a frame with this input and after it: it is at most 2 only if
--- nothing is stored in the frame, and each frame lowers it by one at most
-pub record FadesTo (live after bridges : ℕ) (input : Input) : Type 0 where
-  pub quiet : after ≤ 2 → IsQuiet bridges input
+-- the number of frames until an engine rests, before a frame with this control memory and input, and after it: it is at
+-- most 2 only if nothing is stored in the frame, and each frame lowers it by one at most
+pub record FadesTo (live after : ℕ) (m : Control) (input : Input) : Type 0 where
+  pub quiet : after ≤ 2 → IsQuiet m input
   pub second : after ≤ 1 → live ≤ 2
   pub third : after ≡ 0 → live ≤ 1
 

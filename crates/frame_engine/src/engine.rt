@@ -34,7 +34,8 @@ const LEVELS: u8 = 3;
 /// frame, which it keeps. Last it stores the octets that arrive. An octet therefore leaves two frames after it arrived,
 /// whether or not its path moved in between, and a mixed octet passes the stages twice. This project chose the order.
 ///
-/// Without bridges it rests after three frames in which nothing arrived: all its octets are idle, so none moves.
+/// Without a member at a conference port it rests after three frames in which nothing arrived: all its octets are idle,
+/// so none moves.
 ///
 /// Only `new` allocates. A frame's work is the same for all circuits. It takes no lock, and waits only for the halves
 /// of its stages, which return.
@@ -149,7 +150,7 @@ impl Carrier for Engine {
         input: &[Option<[u8; 30]>],
         out: &mut [[u8; 30]],
     ) {
-        let Some(live) = live_after(self.live, self.bridges, input) else {
+        let Some(live) = live_after(self.live, image, input) else {
             play_at_rest(&self.read, image, tones, out);
             mem::swap(&mut self.kept, image);
             self.next += 1;

@@ -1,4 +1,4 @@
-use Rattle.std.proofs.Common.{◌≡◌, ◌+◌, ◌<◌, ℕ, List, length, sym, ◌∙◌, ap, subst, arith}
+use Rattle.std.proofs.Common.{◌≡◌, ◌+◌, ◌*◌, ◌<◌, ℕ, List, length, sym, ◌∙◌, ap, subst, arith}
 use denote.Param.Send.{param_sync}
 use Rattle.circuit_model.specs.FrameInput.{idle_octet}
 use Rattle.circuit_model.specs.Hears.{hears}
@@ -13,6 +13,8 @@ use Rattle.frame_engine.specs.Frames.{Boundary, Come, IsNext, held_with, inputs_
 use Rattle.frame_engine.specs.Carries.{Stages, EngineCarries, Fades}
 use Rattle.frame_engine.specs.Resting.{FadesTo, IsQuiet}
 use Rattle.frame_engine.proofs.Frame.{IsAt, Takes, Crosses, HasHighwaySizes, carries_on, crosses_idle, holds_idle, holds_taken, played_as-hears, reads_idle}
+use Rattle.frame_engine.proofs.PortRows.{given_to-vacant}
+use Rattle.frame_engine.proofs.QuietFrames.{takes_idle}
 use Rattle.frame_engine.proofs.engine.EngineCarrier.frame.Given.{Over}
 use Rattle.frame_engine.proofs.engine.EngineCarrier.frame.Goals as goal
 
@@ -104,13 +106,10 @@ holds g c b next =
 fades : (g : Over) (c : goal.After-self-3-1 g) (b : Boundary) → Next g c b → Fades (record (engine_before g c) { next = c.self.inside.next + 1; kept = image g c; taken = c.swap-3.new.self.readable; crossed = c.cross_shared.new.crossed; read = octets_read g c; live = c.in-Some.live })
 fades g c b next =
     let is = boundary g c b next in
-    let lives : FadesTo c.self.inside.live c.in-Some.live c.self.inside.bridges c.args.input.now = c.in-Some.ensures.lives in
+    let lives : FadesTo c.self.inside.live c.in-Some.live (image g c) c.args.input.now = c.in-Some.ensures.lives in
     let many : length c.args.input.now ≡ c.self.inside.external = c.requires.input ∙ sym (ap (λ (s : Stages). s.external) c.self.view_is) in
     record {
-      taken = λ few at here near.
-          let quiet = lives.quiet few in
-          let none = quiet.none in
-          (takes g c).takes at (omega (arith, here, none)) near ∙ quiet.idle at (omega (arith, here, none, many));
+      taken = λ few. takes_idle (engine_before g c) (image g c) c.args.input.now (octets_read g c) c.swap-3.new.self.readable (takes g c) (lives.quiet few) (sizes g c).external (sizes g c).bridges many;
       crossed = λ few line slot here near.
           crosses_idle (engine_before g c) (image g c) (octets_read g c) (sizes g c) b.inputs b.held b.ports c.args.input.now b.circuits b.seats is.carries is.shows.0 is.shows.1 is.come c.cross_shared.new.crossed (holds g c b next)
           (is.carries.fades.taken (lives.second few)) line slot here near;
@@ -140,7 +139,7 @@ resting g c = let w = c.self.inside in record { external = w.external; bridges =
 
 record Rests (g : Over) (c : goal.After-self-1 g) (b : Boundary) : Type 0 where
   boundary : AtBoundary (resting g c) c.args.image.now b
-  quiet : (c.self.inside.live ≡ 0) × IsQuiet c.self.inside.bridges c.args.input.now
+  quiet : (c.self.inside.live ≡ 0) × IsQuiet c.args.image.now c.args.input.now
   taken : AllIdle (c.self.inside.external + c.self.inside.bridges) c.self.inside.speech.readable
   crossed : (line slot : ℕ) → line < c.self.inside.external + c.self.inside.bridges → slot < c.self.inside.slots → octet_on c.self.inside.crossed line slot ≡ idle_octet
   read : AllIdle (c.self.inside.external + c.self.inside.bridges) c.self.inside.read.readable
@@ -191,11 +190,16 @@ returns-in_default-clause-plays g c b next at line place =
 pub returns-in_default-clause-carries : goal.returns-in_default-clause-carries
 returns-in_default-clause-carries g c b next =
     let r = rests g c b next in
-    let none = r.quiet.1.none in
+    let external = r.is.external in
+    let bridges = r.is.bridges in
     let many : length c.args.input.now ≡ c.self.inside.external = c.requires.input ∙ sym (ap (λ (s : Stages). s.external) c.self.view_is) in
     let stores : Takes (resting g c) c.args.image.now c.args.input.now c.self.inside.read.readable c.self.inside.speech.readable = record {
       takes = λ at here near. r.taken at (omega (arith, here)) near ∙ sym (r.quiet.1.idle at (omega (arith, here, many)));
-      mixes = λ k low. absurd (omega (arith, low, none));
+      mixes = λ k low.
+          let m = c.args.image.now in
+          let inside : k < 30 * m.bridges = omega (arith, low, bridges) in
+          r.taken (port_numbered m.external k) (omega (arith, low, external)) (omega arith)
+          ∙ sym (given_to-vacant m (octet_in_half c.self.inside.read.readable) k inside (r.quiet.1.vacant k inside));
     } in
     let across = holds_idle (resting g c) c.args.image.now c.self.inside.read.readable r.is b.inputs b.held b.ports c.args.input.now b.circuits b.seats r.boundary.carries r.boundary.shows.0 r.boundary.shows.1 r.boundary.come
     c.self.inside.crossed r.taken r.crossed in
