@@ -1,13 +1,14 @@
 -- Rows of octets, and the octets of their slots.
-use Rattle.std.proofs.Common.{◌≡◌, ◌==◌, ℕ, ◌+◌, ◌<◌, ◌++◌, true, false, List, [], ◌∷◌, length, map, drop, slice_index, get_or, arith, ap, refl, sym, ◌∙◌}
+use Rattle.std.proofs.Common.{◌≡◌, ◌==◌, ◌&&◌, ℕ, ◌+◌, ◌<◌, ◌++◌, Bool, true, false, List, [], ◌∷◌, length, map, take, drop, slice_index, get_or, arith, ap, refl, sym, ◌∙◌}
 use Rattle.std.specs.List.{range_with_len, flat_map, list_all}
 use Rattle.circuit_model.specs.FrameInput.{idle_octet}
 use Rattle.circuit_model.specs.declared.channel.Slot.{Slot}
 use Rattle.report_text.specs.Report.{line_octets, lines_sent, octet_of, part, parts}
 use Rattle.std.proofs.lemmas.Bool.{and_parts, cond-true}
-use Rattle.std.proofs.lemmas.List.{drop_more}
+use Rattle.std.proofs.lemmas.List.{drop_more, take-append-drop, take-take, length-take-le}
 use Rattle.std.proofs.lemmas.List.Folds.{list_all-append}
 use Rattle.std.proofs.lemmas.List.FromFn.{fill_by_all, length-map-range_with_len, get_or-map-range_with_len}
+use Rattle.report_text.proofs.Texts.{after_front}
 
 -- a row of thirty octets is what its line sends
 pub line_octets_row : (line : ℕ) (row : List ℕ) → length row ≡ 30 → line_octets (λ at. slice_index row at.place) line ≡ row
@@ -56,3 +57,25 @@ idle_until all piece rest parts other = ap (list_all (λ octet. octet == idle_oc
 pub idle_after : (all piece rest : List ℕ) → all ≡ piece ++ rest → list_all (λ octet. octet == idle_octet) piece ≡ true
     → list_all (λ octet. octet == idle_octet) all ≡ list_all (λ octet. octet == idle_octet) rest
 idle_after all piece rest parts idle = ap (list_all (λ octet. octet == idle_octet)) parts ∙ list_all-append (λ octet. octet == idle_octet) piece rest ∙ rw idle refl
+
+idle_thrice : (first middle last : Bool) → ((first && middle) && (middle && last)) ≡ ((first && middle) && last)
+idle_thrice true true last = refl
+idle_thrice true false last = refl
+idle_thrice false middle last = refl
+
+-- the first sixteen octets of a row and the last sixteen decide
+pub idle_row : (row front back : List ℕ) (a b : Bool) → length row ≡ 30 → front ≡ take 16 row → back ≡ drop 14 row
+    → a ≡ list_all (λ octet. octet == idle_octet) front → b ≡ list_all (λ octet. octet == idle_octet) back → (a && b) ≡ list_all (λ octet. octet == idle_octet) row
+idle_row row front back a b long at_front at_back one other =
+    let all : List ℕ → Bool = list_all (λ octet. octet == idle_octet) in
+    let x : List ℕ = take 14 row in
+    let m : List ℕ = drop 14 (take 16 row) in
+    let e : List ℕ = drop 16 row in
+    let sixteen : take 16 row ≡ x ++ m = sym (take-append-drop 14 (take 16 row)) ∙ ap (λ l. l ++ m) (take-take 14 16 row (omega arith)) in
+    let behind : drop 14 row ≡ m ++ e = after_front row x m 14 16 sixteen (length-take-le 14 row (omega (arith, long))) in
+    let whole : row ≡ (x ++ m) ++ e = sym (take-append-drop 16 row) ∙ ap (λ l. l ++ e) sixteen in
+    let first : a ≡ (all x && all m) = one ∙ ap all (at_front ∙ sixteen) ∙ list_all-append (λ octet. octet == idle_octet) x m in
+    let second : b ≡ (all m && all e) = other ∙ ap all (at_back ∙ behind) ∙ list_all-append (λ octet. octet == idle_octet) m e in
+    let total : all row ≡ ((all x && all m) && all e) =
+    ap all whole ∙ list_all-append (λ octet. octet == idle_octet) (x ++ m) e ∙ ap (λ b. b && all e) (list_all-append (λ octet. octet == idle_octet) x m) in
+    (λ i. first i && second i) ∙ idle_thrice (all x) (all m) (all e) ∙ sym total

@@ -1,9 +1,8 @@
 -- Rows with idle octets behind the octets of a line or a message.
-use Rattle.std.proofs.Common.{◌≡◌, ℕ, ◌+◌, ◌*◌, ◌/◌, ◌%◌, ◌<◌, ◌≤◌, List, [], ◌∷◌, ◌++◌, length, take, drop, set, slice_index, refl, ap, ◌∙◌, arith, append_assoc}
-use Rattle.std.proofs.lemmas.List.{append-nil, take-append-le, take_all, drop_all, drop_at}
+use Rattle.std.proofs.Common.{◌≡◌, ℕ, ◌*◌, ◌-◌, ◌≤◌, List, [], ◌∷◌, ◌++◌, length, take, drop, refl, ap, sym, ◌∙◌, arith}
+use Rattle.std.proofs.lemmas.List.{take-append-le, take-append-drop, take-take, take_all, take_at, drop_at, length-take-le}
 use Rattle.hex.specs.Hex.{encode_with, encode_upper, upper_digits}
 use Rattle.hex.proofs.HexLemmas.{length-encode_with}
-use Rattle.hex.proofs.Pairs.{take-two_writes, encode_with-drop}
 
 pub encode-append : (t xs ys : List ℕ) → encode_with t (xs ++ ys) ≡ encode_with t xs ++ encode_with t ys
 unfolding encode_with
@@ -18,25 +17,29 @@ encode_front t xs ys =
     ∙ take-append-le (2 * length xs) (encode_with t xs) (encode_with t ys) (omega (arith, len))
     ∙ take_all (2 * length xs) (encode_with t xs) (omega (arith, len))
 
--- one octet more is written, behind n others
-pub encode_step_at : (front input text : List ℕ) (o i x y : ℕ) → i < length input → o + 2 * i + 1 < length text
-    → x ≡ slice_index upper_digits (slice_index input i / 16) → y ≡ slice_index upper_digits (slice_index input i % 16)
-    → take (o + 2 * i) text ++ encode_upper (drop i input) ≡ front ++ encode_upper input
-    → take (o + 2 * (i + 1)) (set (set text (o + 2 * i) x) (o + 2 * i + 1) y) ++ encode_upper (drop (i + 1) input) ≡ front ++ encode_upper input
-encode_step_at front input text o i x y within fits high low so_far =
-    let two : o + 2 * (i + 1) ≡ o + 2 * i + 2 = omega arith in
-    let written = take-two_writes text (o + 2 * i) x y fits in
-    let rest = encode_with-drop upper_digits input i within in
-    rw (two, written, append_assoc, high, low) (rw rest at so_far)
-
--- every octet is written
-pub encode_done_at : (front input text : List ℕ) (o i : ℕ) → length input ≤ i → length text ≡ o + 2 * i → length front ≡ o
-    → take (o + 2 * i) text ++ encode_upper (drop i input) ≡ front ++ encode_upper input → drop o text ≡ encode_upper input
-unfolding encode_with
-encode_done_at front input text o i over long before so_far =
-    let whole : text ≡ front ++ encode_upper input = rw (drop_all i input over, take_all (o + 2 * i) text (omega (arith, long)), append-nil) at so_far in
-    ap (drop o) whole ∙ drop_at front (encode_upper input) o before
-
 -- the digits of the octets that count in a row
 pub wide_digits : (octets more row : List ℕ) → row ≡ octets ++ more → take (2 * length octets) (encode_upper row) ≡ encode_upper octets
 wide_digits octets more row wide = ap (λ r. take (2 * length octets) (encode_upper r)) wide ∙ encode_front upper_digits octets more
+
+-- the digits of two parts
+pub encode_halves : (a b x y : List ℕ) → a ++ b ≡ encode_upper (x ++ y) → length a ≡ 2 * length x → (a ≡ encode_upper x) × (b ≡ encode_upper y)
+encode_halves a b x y both long =
+    let parts : a ++ b ≡ encode_upper x ++ encode_upper y = both ∙ encode-append upper_digits x y in
+    let size : length (encode_upper x) ≡ length a = length-encode_with upper_digits x ∙ sym long in (
+      sym (take_at a b (length a) refl) ∙ ap (take (length a)) parts ∙ take_at (encode_upper x) (encode_upper y) (length a) size,
+      sym (drop_at a b (length a) refl) ∙ ap (drop (length a)) parts ∙ drop_at (encode_upper x) (encode_upper y) (length a) size,
+    )
+
+-- the digits of the first k octets and of the last k, of which some are the same
+pub encode_overlapped : (k : ℕ) (octets a b : List ℕ) → k ≤ length octets → length octets ≤ 2 * k → a ≡ encode_upper (take k octets)
+    → b ≡ encode_upper (drop (length octets - k) octets) → take (2 * (length octets - k)) a ++ b ≡ encode_upper octets
+encode_overlapped k octets a b least most one other =
+    let j : ℕ = length octets - k in
+    let x : List ℕ = take j (take k octets) in
+    let y : List ℕ = drop j (take k octets) in
+    let whole : length (take k octets) ≡ k = length-take-le k octets least in
+    let short : length x ≡ j = length-take-le j (take k octets) (omega (arith, whole, most)) in
+    let same : x ≡ take j octets = take-take j k octets (omega (arith, most)) in
+    let front : take (2 * j) a ≡ encode_upper x =
+    ap (take (2 * j)) (one ∙ ap encode_upper (sym (take-append-drop j (take k octets)))) ∙ ap (λ n. take (2 * n) (encode_upper (x ++ y))) (sym short) ∙ encode_front upper_digits x y in
+    (λ i. (front ∙ ap encode_upper same) i ++ other i) ∙ sym (encode-append upper_digits (take j octets) (drop j octets)) ∙ ap encode_upper (take-append-drop j octets)

@@ -1,7 +1,7 @@
 // Rows of octets, and their hexadecimal digits.
 //
 // The octets of a line are processed as a row of 32, so that loops of fixed length become vector code.
-ghost use Rattle.std.specs.Prelude.{◌≡◌, true, ◌==◌, ◌++◌, ◌-◌, ◌/◌, ◌%◌, ◌<◌, ◌≤◌, length, drop, map, slice_index, replicate};
+ghost use Rattle.std.specs.Prelude.{◌≡◌, true, ◌==◌, ◌++◌, ◌-◌, ◌/◌, ◌%◌, ◌<◌, ◌≤◌, ◌+◌, ◌*◌, length, take, drop, map, slice_index, replicate};
 ghost use Rattle.std.specs.List.{flat_map, list_all};
 ghost use Rattle.std.specs.Simd.Lanes.{Each1};
 ghost use Rattle.hex.specs.Hex.{encode_upper, upper_digits};
@@ -11,7 +11,7 @@ use circuit_model::IDLE;
 use std::simd::prelude::*;
 
 // At most 32 octets, and idle octets after them.
-pub(crate) fn wide_row(octets: &[u8]) -> [u8; 32]
+fn wide_row(octets: &[u8]) -> [u8; 32]
     requires { length octets.now ≤ 32 }
     ensures { result ≡ octets.now ++ replicate (32 - length octets.now) idle_octet }
 {
@@ -20,8 +20,19 @@ pub(crate) fn wide_row(octets: &[u8]) -> [u8; 32]
     row
 }
 
-// Returns whether all octets of a line are idle. Every octet is tested, several at once.
+// Returns whether all octets of a line are idle. Every octet is tested, sixteen at once, and two of them twice.
+#[inline(always)]
 pub(crate) fn is_idle(octets: &[u8; 30]) -> bool
+    ensures { result ≡ list_all (λ octet. octet == idle_octet) octets.now }
+{
+    let first = u8x16::from_slice(&octets[..16]).to_array();
+    let last = u8x16::from_slice(&octets[14..]).to_array();
+    are_sixteen_idle(&first) & are_sixteen_idle(&last)
+}
+
+// Returns whether sixteen octets are idle.
+#[inline(always)]
+fn are_sixteen_idle(octets: &[u8; 16]) -> bool
     ensures { result ≡ list_all (λ octet. octet == idle_octet) octets.now }
 {
     let mut all = true;
@@ -71,15 +82,83 @@ fn is_piece_idle(octets: &[u8]) -> bool
 }
 
 // Writes the digits of a row into a text, two for each octet, after space for the number of a line.
-pub(crate) fn put_row_digits(text: &mut [u8; 86], row: &[u8; 32])
-    ensures { drop 22 text.new ≡ encode_upper row.now }
+#[inline(always)]
+pub(crate) fn put_row_digits(text: &mut [u8; 64], row: &[u8; 30])
+    ensures { drop 4 text.new ≡ encode_upper row.now }
 {
-    let (first, second) = digits_of(u8x16::from_slice(row));
-    let (third, fourth) = digits_of(u8x16::from_slice(&row[16..]));
-    first.copy_to_slice(&mut text[22..38]);
-    second.copy_to_slice(&mut text[38..54]);
-    third.copy_to_slice(&mut text[54..70]);
-    fourth.copy_to_slice(&mut text[70..86]);
+    put_sixteen(text, 4, &row[..16]);
+    put_sixteen(text, 32, &row[14..]);
+}
+
+// Writes the digits of four to sixteen octets into a text. The first ones and the last ones are read at once, and some
+// of them in both.
+#[inline(always)]
+pub(crate) fn put_few_digits(text: &mut [u8], at: usize, octets: &[u8])
+    requires octets { (4 ≤ length octets.now) × (length octets.now ≤ 16) }
+    requires room { at + 32 ≤ length text.old }
+    ensures size { length text.new ≡ length text.old }
+    ensures digits { take (at + 2 * length octets.now) text.new ≡ take at text.old ++ encode_upper octets.now }
+{
+    if octets.len() < 8 {
+        let back = octets.len() - 4;
+        let digits = digits_of(two_fours(octets)).0;
+        digits
+            .extract::<0, 8>()
+            .copy_to_slice(&mut text[at..at + 8]);
+        digits
+            .extract::<8, 8>()
+            .copy_to_slice(&mut text[at + 2 * back..at + 2 * back + 8]);
+    } else {
+        let back = octets.len() - 8;
+        let (first, last) = digits_of(two_eights(octets));
+        first.copy_to_slice(&mut text[at..at + 16]);
+        last.copy_to_slice(&mut text[at + 2 * back..at + 2 * back + 16]);
+    }
+}
+
+// Returns the first four octets and the last four, and others.
+#[inline(always)]
+fn two_fours(octets: &[u8]) -> u8x16
+    requires { 4 ≤ length octets.now }
+    ensures { take 8 result ≡ take 4 octets.now ++ drop (length octets.now - 4) octets.now }
+{
+    let first = u8x4::from_slice(octets);
+    let last = u8x4::from_slice(&octets[octets.len() - 4..]);
+    first.shuffle::<16>(last, [0, 1, 2, 3, 4, 5, 6, 7, 0, 1, 2, 3, 4, 5, 6, 7])
+}
+
+// Returns the first eight octets and the last eight.
+#[inline(always)]
+fn two_eights(octets: &[u8]) -> u8x16
+    requires { 8 ≤ length octets.now }
+    ensures { result ≡ take 8 octets.now ++ drop (length octets.now - 8) octets.now }
+{
+    let first = u8x8::from_slice(octets);
+    let last = u8x8::from_slice(&octets[octets.len() - 8..]);
+    first.shuffle::<16>(last, [0, 1, 2, 3, 4, 5, 6, 7, 8, 9, 10, 11, 12, 13, 14, 15])
+}
+
+// Writes the digits of at most 32 octets into a text.
+pub(crate) fn put_digits(text: &mut [u8; 86], octets: &[u8])
+    requires { length octets.now ≤ 32 }
+    ensures { take (2 * length octets.now) (drop 22 text.new) ≡ encode_upper octets.now }
+{
+    let row = wide_row(octets);
+    put_sixteen(text, 22, &row[..16]);
+    put_sixteen(text, 54, &row[16..]);
+}
+
+// Writes the digits of sixteen octets into a text.
+#[inline(always)]
+fn put_sixteen(text: &mut [u8], at: usize, octets: &[u8])
+    requires octets { length octets.now ≡ 16 }
+    requires room { at + 32 ≤ length text.old }
+    ensures size { length text.new ≡ length text.old }
+    ensures digits { take (at + 32) text.new ≡ take at text.old ++ encode_upper octets.now }
+{
+    let (first, second) = digits_of(u8x16::from_slice(octets));
+    first.copy_to_slice(&mut text[at..at + 16]);
+    second.copy_to_slice(&mut text[at + 16..at + 32]);
 }
 
 // Returns the digits of sixteen octets, in two halves.

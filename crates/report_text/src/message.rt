@@ -1,11 +1,11 @@
 // The line of a message, and the messages of a frame's line.
-ghost use Rattle.std.specs.Prelude.{◌≡◌, ◌++◌, ◌≤◌, codes, length, take, OnOk};
+ghost use Rattle.std.specs.Prelude.{◌≡◌, ◌++◌, ◌<◌, ◌≤◌, codes, decimal, length, take, IsTrue, OnOk};
 ghost use Rattle.hex.specs.Hex.{encode_upper};
 ghost use Rattle.report_text.specs.Report.{frame_messages, message_line, messages, moves, on_line};
 
-use crate::digits::{put_row_digits, wide_row};
-use crate::report::{put_sent, put_word};
-use crate::text::{put_before, put_number_before};
+use crate::digits::{put_digits, put_few_digits};
+use crate::report::put_word;
+use crate::text::{NEAR_LINES, append_front, put_before, put_line_before, put_number_before};
 use exchange_events::Signal;
 use std::alloc::AllocError;
 
@@ -30,13 +30,22 @@ pub(crate) fn put_message(
 /// # Errors
 ///
 /// [`AllocError`] if an allocation fails. Then `out` may have a prefix of the text.
+#[inline(always)]
 pub fn put_moves(out: &mut Vec<u8>, moved: Option<(u32, u32)>) -> Result<(), AllocError>
     ensures moves { OnOk result (out.new.items ≡ out.old.items ++ moves moved) }
     ensures front { take (length out.old.items) out.new.items ≡ out.old.items }
 {
-    let Some((a, b)) = moved else {
-        return Ok(());
-    };
+    match moved {
+        Some((a, b)) => put_moved(out, a, b),
+        None => Ok(()),
+    }
+}
+
+// Appends the numbers of the live paths that were moved.
+fn put_moved(out: &mut Vec<u8>, a: u32, b: u32) -> Result<(), AllocError>
+    ensures moves { OnOk result (out.new.items ≡ out.old.items ++ codes " moved " ++ decimal a ++ codes " " ++ decimal b) }
+    ensures front { take (length out.old.items) out.new.items ≡ out.old.items }
+{
     let mut text = [0; 32];
     let start = put_number_before(&mut text, 32, b);
     let start = put_before(&mut text, start, b" ");
@@ -72,8 +81,13 @@ fn put_frame_signal(out: &mut Vec<u8>, sent: &Signal) -> Result<(), AllocError>
     ensures message { OnOk result (out.new.items ≡ out.old.items ++ codes " send" ++ on_line sent.now.line sent.now.octets) }
     ensures front { take (length out.old.items) out.new.items ≡ out.old.items }
 {
+    let line = usize::from(sent.line);
+    let octets = sent.octets.as_slice();
+    if is_near(line, octets) {
+        return put_near(out, b" send", line, octets);
+    }
     out.extend_from_slice(b" send")?;
-    put_signal(out, sent)
+    put_far(out, line, octets)
 }
 
 // Appends a message that was sent, after the number of its line.
@@ -94,6 +108,41 @@ pub fn put_on_line(out: &mut Vec<u8>, line: usize, octets: &[u8]) -> Result<(), 
     ensures message { OnOk result (out.new.items ≡ out.old.items ++ on_line line octets.now) }
     ensures front { take (length out.old.items) out.new.items ≡ out.old.items }
 {
+    if is_near(line, octets) {
+        return put_near(out, b"", line, octets);
+    }
+    put_far(out, line, octets)
+}
+
+// Returns whether a message has four to sixteen octets, and its line a number of at most two digits.
+#[inline(always)]
+fn is_near(line: usize, octets: &[u8]) -> bool
+    ensures { IsTrue result → (line < 100) × (4 ≤ length octets.now) × (length octets.now ≤ 16) }
+{
+    line < NEAR_LINES && 4 <= octets.len() && octets.len() <= 16
+}
+
+// Appends a word, the number of a line and the octets of a message of four to sixteen octets. No copy has a length that
+// is not known at compile time.
+#[inline(always)]
+fn put_near(out: &mut Vec<u8>, word: &[u8], line: usize, octets: &[u8]) -> Result<(), AllocError>
+    requires { (length word.now ≤ 5) × (line < 100) × (4 ≤ length octets.now) × (length octets.now ≤ 16) }
+    ensures message { OnOk result (out.new.items ≡ out.old.items ++ word.now ++ on_line line octets.now) }
+    ensures front { take (length out.old.items) out.new.items ≡ out.old.items }
+{
+    let mut text = [0; 48];
+    put_few_digits(&mut text, 9, octets);
+    let start = put_line_before(&mut text, 9, line);
+    let start = put_before(&mut text, start, word);
+    append_front(out, &text[start..start + 41], 9 + 2 * octets.len() - start)
+}
+
+// Appends octets that were sent, after the number of their line.
+#[inline(never)]
+pub(crate) fn put_far(out: &mut Vec<u8>, line: usize, octets: &[u8]) -> Result<(), AllocError>
+    ensures message { OnOk result (out.new.items ≡ out.old.items ++ on_line line octets.now) }
+    ensures front { take (length out.old.items) out.new.items ≡ out.old.items }
+{
     let (first, others) = octets.split_at(octets.len().min(32));
     put_first(out, line, first)?;
     put_octets(out, others)
@@ -105,7 +154,10 @@ fn put_first(out: &mut Vec<u8>, line: usize, octets: &[u8]) -> Result<(), AllocE
     ensures first { OnOk result (out.new.items ≡ out.old.items ++ on_line line octets.now) }
     ensures front { take (length out.old.items) out.new.items ≡ out.old.items }
 {
-    put_sent(out, line, &wide_row(octets), octets.len())
+    let mut text = [0; 86];
+    put_digits(&mut text, octets);
+    let start = put_line_before(&mut text, 22, line);
+    out.extend_from_slice(&text[start..22 + 2 * octets.len()])
 }
 
 // Appends octets as hexadecimal digits, two each.
@@ -129,6 +181,6 @@ fn put_few(out: &mut Vec<u8>, octets: &[u8]) -> Result<(), AllocError>
     ensures front { take (length out.old.items) out.new.items ≡ out.old.items }
 {
     let mut text = [0; 86];
-    put_row_digits(&mut text, &wide_row(octets));
+    put_digits(&mut text, octets);
     out.extend_from_slice(&text[22..22 + 2 * octets.len()])
 }

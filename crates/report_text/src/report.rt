@@ -4,9 +4,9 @@ ghost use Rattle.hex.specs.Hex.{encode_upper};
 ghost use Rattle.exchange_events.specs.declared.answer.Kept.TheVariants.{Granted, Busy, Seated, NoPort, Freed, NotNailed};
 ghost use Rattle.report_text.specs.Report.{answer_line, frame_line, line_octets, lines_sent, moved_kept, octet_of, part, parts, parts_line, report_line, response_kept, response_line, sends_kept};
 
-use crate::digits::{are_known_idle, is_idle, put_row_digits, wide_row};
-use crate::message::{put_frame_signals, put_message};
-use crate::text::{put_before, put_line_before, put_number_before};
+use crate::digits::{are_known_idle, is_idle, put_row_digits};
+use crate::message::{put_far, put_frame_signals, put_message};
+use crate::text::{NEAR_LINES, append_front, put_before, put_line_before, put_number_before};
 use exchange_events::{Answer, Kept, Outbox, Response, Signal};
 use std::alloc::AllocError;
 
@@ -197,10 +197,10 @@ pub fn put_word(out: &mut Vec<u8>, number: u32, word: &[u8]) -> Result<(), Alloc
     ensures word { OnOk result (out.new.items ≡ out.old.items ++ decimal number ++ word.now) }
     ensures front { take (length out.old.items) out.new.items ≡ out.old.items }
 {
-    let mut text = [0; ROOM];
-    let start = put_before(&mut text, ROOM, word);
+    let mut text = [0; 64];
+    let start = put_before(&mut text, 32, word);
     let start = put_number_before(&mut text, start, number);
-    out.extend_from_slice(&text[start..])
+    append_front(out, &text[start..start + 32], 32 - start)
 }
 
 /// Appends a number, the word after it, and a second number.
@@ -215,11 +215,11 @@ pub fn put_pair(out: &mut Vec<u8>, number: u32, word: &[u8], other: u32) -> Resu
     ensures pair { OnOk result (out.new.items ≡ out.old.items ++ decimal number ++ word.now ++ decimal other) }
     ensures front { take (length out.old.items) out.new.items ≡ out.old.items }
 {
-    let mut text = [0; ROOM];
+    let mut text = [0; 96];
     let start = put_number_before(&mut text, ROOM, other);
     let start = put_before(&mut text, start, word);
     let start = put_number_before(&mut text, start, number);
-    out.extend_from_slice(&text[start..])
+    append_front(out, &text[start..start + 48], ROOM - start)
 }
 
 // Appends a line that ends with two numbers, each after a space.
@@ -289,23 +289,15 @@ fn put_part(out: &mut Vec<u8>, line: usize, octets: &[u8; 30]) -> Result<(), All
     if is_idle(octets) {
         return Ok(());
     }
-    let row = wide_row(octets);
-    put_sent(out, line, &row, 30)
-}
-
-// Appends the first octets of a row, after the number of their line.
-pub(crate) fn put_sent(
-    out: &mut Vec<u8>,
-    line: usize,
-    row: &[u8; 32],
-    count: usize,
-) -> Result<(), AllocError>
-    requires { count ≤ 32 }
-    ensures sent { OnOk result (out.new.items ≡ out.old.items ++ (codes " " ++ decimal line ++ codes ":" ++ take (2 * count) (encode_upper row.now))) }
-    ensures front { take (length out.old.items) out.new.items ≡ out.old.items }
-{
-    let mut text = [0; 86];
-    put_row_digits(&mut text, row);
-    let start = put_line_before(&mut text, line);
-    out.extend_from_slice(&text[start..22 + 2 * count])
+    if line >= NEAR_LINES {
+        return put_far(out, line, octets);
+    }
+    let mut text = [0; 64];
+    put_row_digits(&mut text, octets);
+    let start = put_line_before(&mut text, 4, line);
+    if start == 0 {
+        out.extend_from_slice(&text)
+    } else {
+        out.extend_from_slice(&text[1..])
+    }
 }

@@ -1,6 +1,6 @@
 use Rattle.std.proofs.Common.{rules, ◌≡◌, ◌++◌, ◌∷◌, [], List, ℕ, take, drop, decimal, sym, arith}
 use Rattle.report_text.proofs.Texts.{parts_joined}
-use Rattle.report_text.proofs.message.put_on_line.Goals as goal
+use Rattle.report_text.proofs.message.put_far.Goals as goal
 
 pub returns-clause-message : goal.returns-clause-message
 returns-clause-message c =
