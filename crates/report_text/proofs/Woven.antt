@@ -1,11 +1,12 @@
 -- The digits of sixteen octets, of which the first ones and the second ones are interleaved.
 use Rattle.std.proofs.Common.{◌≡◌, ℕ, ◌+◌, ◌*◌, ◌-◌, ◌/◌, ◌%◌, ◌≤◌, ◌++◌, List, [], ◌∷◌, length, take, drop, get_or, map, refl, sym, ap, subst, ◌∙◌, arith, append_assoc, length-append, length-drop}
 use Rattle.std.specs.Simd.Lanes.{pick_l, put_chunk}
-use Rattle.std.proofs.lemmas.List.{append-nil, take_all, take-append-drop, take-take, drop_all, length-take-le}
+use Rattle.std.proofs.lemmas.List.{append-nil, take_all, take-append-drop, take-take, take_at, drop_all, length-take-le}
 use Rattle.std.proofs.lemmas.Simd.{pick_l_whole, put_chunk_whole}
 use Rattle.std.proofs.lemmas.Slice.{take-put_mid}
 use borrow.Rule.Slice.PartMut.{put_mid, mid_of, same_len_mid}
 use Rattle.hex.specs.Hex.{encode_with, encode_upper, upper_digits}
+use Rattle.hex.proofs.HexLemmas.{length-encode_with}
 use Rattle.report_text.proofs.Wide.{encode-append, encode_halves, encode_overlapped}
 use Rattle.report_text.proofs.Texts.{after_front, take_behind}
 
@@ -160,3 +161,22 @@ wide_written text one two row long whole wide first second =
     let written : take 86 two ≡ take 22 text ++ encode_upper row =
     second ∙ ap (λ l. take 54 one ++ encode_upper l) last ∙ ap (λ p. p ++ encode_upper (drop 16 row)) first ∙ append_assoc (take 22 text) (encode_upper (take 16 row)) (encode_upper (drop 16 row)) ∙ ap (λ l. take 22 text ++ l) joined in
     after_front two (take 22 text) (encode_upper row) 22 86 written room ∙ ap (λ l. encode_upper row ++ l) (drop_all 86 two (omega (arith, whole))) ∙ append-nil (encode_upper row)
+
+-- the digits of sixteen to 32 octets
+pub long_written : (text one two octets : List ℕ) → length text ≡ 86 → 16 ≤ length octets → length octets ≤ 32 → take 54 one ≡ take 22 text ++ encode_upper (take 16 octets)
+    → take (22 + 2 * (length octets - 16) + 32) two ≡ take (22 + 2 * (length octets - 16)) one ++ encode_upper (drop (length octets - 16) octets)
+    → take (2 * length octets) (drop 22 two) ≡ encode_upper octets
+long_written text one two octets long least most first second =
+    let j : ℕ = 2 * (length octets - 16) in
+    let m : ℕ = 22 + j in
+    let front : List ℕ = encode_upper (take 16 octets) in
+    let back : List ℕ = encode_upper (drop (length octets - 16) octets) in
+    let room : length (take 22 text) ≡ 22 = length-take-le 22 text (omega (arith, long)) in
+    let place : length (take 22 text) + j ≡ m = omega (arith, room) in
+    let before : take m one ≡ take 22 text ++ take j front =
+    sym (take-take m 54 one (omega (arith, most))) ∙ ap (take m) first ∙ ap (λ p. take p (take 22 text ++ front)) (sym place) ∙ take_behind (take 22 text) front j in
+    let joined : take j front ++ back ≡ encode_upper octets = encode_overlapped 16 octets front back least most refl refl in
+    let written : take (m + 32) two ≡ take 22 text ++ encode_upper octets =
+    second ∙ ap (λ p. p ++ back) before ∙ append_assoc (take 22 text) (take j front) back ∙ ap (λ l. take 22 text ++ l) joined in
+    ap (take (2 * length octets)) (after_front two (take 22 text) (encode_upper octets) 22 (m + 32) written room)
+    ∙ take_at (encode_upper octets) (drop (m + 32) two) (2 * length octets) (length-encode_with upper_digits octets)

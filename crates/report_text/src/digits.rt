@@ -138,8 +138,23 @@ fn two_eights(octets: &[u8]) -> u8x16
     first.shuffle::<16>(last, [0, 1, 2, 3, 4, 5, 6, 7, 8, 9, 10, 11, 12, 13, 14, 15])
 }
 
-// Writes the digits of at most 32 octets into a text.
+// Writes the digits of at most 32 octets into a text. If there are sixteen or more, the first sixteen and the last
+// sixteen are read, and some of them in both.
 pub(crate) fn put_digits(text: &mut [u8; 86], octets: &[u8])
+    requires { length octets.now ≤ 32 }
+    ensures { take (2 * length octets.now) (drop 22 text.new) ≡ encode_upper octets.now }
+{
+    if octets.len() < 16 {
+        put_padded_digits(text, octets);
+    } else {
+        let back = octets.len() - 16;
+        put_sixteen(text, 22, &octets[..16]);
+        put_sixteen(text, 22 + 2 * back, &octets[back..]);
+    }
+}
+
+// Writes the digits of at most 32 octets into a text, and those of idle octets after them.
+fn put_padded_digits(text: &mut [u8; 86], octets: &[u8])
     requires { length octets.now ≤ 32 }
     ensures { take (2 * length octets.now) (drop 22 text.new) ≡ encode_upper octets.now }
 {
