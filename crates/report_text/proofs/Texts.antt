@@ -54,7 +54,7 @@ parts_joined out p octets n =
     ∙ ap (λ l. out ++ 32 ∷ l) (append_assoc p (encode_upper (take n octets)) (encode_upper (drop n octets))
     ∙ ap (λ l. p ++ l) (sym (encode-append upper_digits (take n octets) (drop n octets)) ∙ ap encode_upper (take-append-drop n octets)))
 
--- the octets behind the front of a text
+-- the octets after a prefix of a text
 pub after_front : (text front digits : List ℕ) (at n : ℕ) → take n text ≡ front ++ digits → length front ≡ at → drop at text ≡ digits ++ drop n text
 after_front text front digits at n written long =
     ap (drop at) (sym (take-append-drop n text) ∙ ap (λ l. l ++ drop n text) written ∙ append_assoc front digits (drop n text)) ∙ drop_at front (digits ++ drop n text) at long

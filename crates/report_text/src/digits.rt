@@ -90,7 +90,7 @@ pub(crate) fn put_row_digits(text: &mut [u8; 64], row: &[u8; 30])
     put_sixteen(text, 32, &row[14..]);
 }
 
-// Writes the digits of four to sixteen octets into a text. The first ones and the last ones are read at once, and some
+// Writes the digits of 4 to 16 octets into a text. The first octets and the last octets are read at once, and some
 // of them in both.
 #[inline(always)]
 pub(crate) fn put_few_digits(text: &mut [u8], at: usize, octets: &[u8])
@@ -116,7 +116,7 @@ pub(crate) fn put_few_digits(text: &mut [u8], at: usize, octets: &[u8])
     }
 }
 
-// Returns the first four octets and the last four, and others.
+// Returns the first 4 octets and the last 4 octets, and 8 unspecified octets.
 #[inline(always)]
 fn two_fours(octets: &[u8]) -> u8x16
     requires { 4 ≤ length octets.now }
@@ -127,7 +127,7 @@ fn two_fours(octets: &[u8]) -> u8x16
     first.shuffle::<16>(last, [0, 1, 2, 3, 4, 5, 6, 7, 0, 1, 2, 3, 4, 5, 6, 7])
 }
 
-// Returns the first eight octets and the last eight.
+// Returns the first 8 octets and the last 8 octets.
 #[inline(always)]
 fn two_eights(octets: &[u8]) -> u8x16
     requires { 8 ≤ length octets.now }
@@ -153,7 +153,7 @@ pub(crate) fn put_digits(text: &mut [u8; 86], octets: &[u8])
     }
 }
 
-// Writes the digits of at most 32 octets into a text, and those of idle octets after them.
+// Writes the digits of at most 32 octets into a text, and digits of idle octets after them.
 fn put_padded_digits(text: &mut [u8; 86], octets: &[u8])
     requires { length octets.now ≤ 32 }
     ensures { take (2 * length octets.now) (drop 22 text.new) ≡ encode_upper octets.now }
