@@ -196,6 +196,12 @@ pub frame_reads : (s : SoFar) (sizes : Sizes) (rest : List ℕ) (event : Event) 
 frame_reads s sizes rest event known ends plain =
     reads_by_kind s sizes (70 ∷ rest) (70 ∷ []) (words rest) known refl (words_front (70 ∷ []) rest (omega arith) refl ends) (rw plain.text refl) ∙ rw plain.reads refl
 
+-- a line of one octet
+pub only_is : (xs : List ℕ) (x : ℕ) → length xs ≡ 1 → get_or xs 0 0 ≡ x → xs ≡ x ∷ []
+only_is [] x one is = absurd (omega (arith, one))
+only_is (y ∷ []) x one is = ap (λ z. z ∷ []) is
+only_is (y ∷ z ∷ zs) x one is = absurd (omega (arith, one))
+
 pub some_weaker : {A : Type 0} (o : Option A) (P Q : A → Type 0) → ((x : A) → P x → Q x) → IfSome o P → IfSome o Q
 some_weaker None P Q f h = tt
 some_weaker (Some x) P Q f h = f x h

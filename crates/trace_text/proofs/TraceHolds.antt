@@ -16,7 +16,8 @@ use Rattle.trace_text.specs.declared.said.Said.{Said}
 use Rattle.trace_text.specs.declared.said.Said.TheVariants.{Header, Numbered, Toned, Timed, Happens, Sync, Change}
 use Rattle.trace_text.specs.declared.timing.GivenTimers.{GivenTimers}
 use Rattle.trace_text.specs.TraceGrammar.{sizes_in, number_said, numbers_in, plan_of, tone_said, no_tones, timer_said, event_said, events_in, open_segment_end, ends_after, segment_ends, changes_after, changes_in, so_far}
-use Rattle.trace_text.specs.TraceLines.{SoFar, says, trace_limits, with_tone}
+use Rattle.trace_text.specs.TraceLines.{SoFar, reads, says, trace_limits, with_tone}
+use Rattle.trace_text.proofs.TraceParts.{says_both}
 use Rattle.trace_text.specs.TraceTimers.{no_timers, with_timer}
 use Rattle.trace_text.specs.TraceHeading.{happening_of, with_said, Suits, IsLineRead}
 use Rattle.trace_text.specs.TraceDraft.{Holds, IsEnded}
@@ -272,3 +273,9 @@ module _ (d : Draft) (told : List Said) (h : Holds d told) (line : List ℕ) (af
       change_said_so d told h n line r.said r.meets (heading ∙ ended.heading ∙ r.behind told h.heading) r.happens (events ∙ ended.events)
       (ends ∙ ended.ends ∙ ap (λ count. d.ends.items ++ open_segment_end d.begun count) same) (begun ∙ ended.begun ∙ same)
       (changes ∙ ap (λ (ns : List ℕ). ns ++ e.begun ∷ []) ended.changes ∙ ap (λ count. d.changes.items ++ count ∷ []) (ended.begun ∙ same))
+
+-- the end of a segment, read at once
+pub holds_sync : (d n : Draft) (told : List Said) (line : List ℕ) → Holds d told → reads d.heading line ≡ Ok Sync → IsEnded d n → HoldsMore told line n
+holds_sync d n told line h read ended =
+    sync_said d told h n line Sync (says_both trace_limits d.heading line Sync read refl) (ended.heading ∙ known_behind d.heading d.heading Sync tt refl told h.heading) refl
+    ended.events ended.ends ended.begun ended.changes

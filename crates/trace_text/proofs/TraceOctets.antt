@@ -1,11 +1,11 @@
 -- Hexadecimal digits in pairs.
-use Rattle.std.proofs.Common.{◌≡◌, ◌≢◌, ℕ, zero, suc, ◌+◌, ◌*◌, ◌-◌, ◌/◌, ◌%◌, ◌<◌, ◌≤◌, Bool, true, false, cond, ◌&&◌, ◌||◌, eqb, ltb, bit_or, List, [], ◌∷◌, ◌++◌, length, get_or, set, take, drop, map, replicate, Option, Some, None, is_some, option_map, ok_or, All, leb, Ok, Err, refl, sym, ap, subst, ◌∙◌, arith, ◌⊎◌, inl, inr, append_assoc}
+use Rattle.std.proofs.Common.{◌≡◌, ◌≢◌, ℕ, zero, suc, ◌+◌, ◌*◌, ◌-◌, ◌/◌, ◌%◌, ◌<◌, ◌≤◌, Bool, true, false, cond, ◌&&◌, ◌||◌, eqb, ltb, bit_or, List, [], ◌∷◌, ◌++◌, length, take, drop, map, replicate, Option, Some, None, is_some, option_map, ok_or, All, leb, Ok, Err, refl, sym, ap, subst, ◌∙◌, arith, ◌⊎◌, inl, inr, append_assoc}
 use Rattle.std.specs.Prelude.{Result, option_and_then, IfSome, IfOk, IfErr}
 use Rattle.std.specs.List.{list_all}
 use Rattle.std.proofs.lemmas.Bool.{eq-eqb, ne_eqb, le-leb, agree_below_at}
-use Rattle.std.proofs.lemmas.List.{append-nil, take-append-drop, take_more, take_more_set, drop_more, drop_all, take_all, length-map, map-append}
+use Rattle.std.proofs.lemmas.List.{take-append-drop, length-map}
 use Rattle.std.proofs.lemmas.List.Elements.{All-nil, All-cons}
-use Rattle.std.proofs.lemmas.List.Folds.{list_all-append, list_all_at}
+use Rattle.std.proofs.lemmas.List.Folds.{list_all-append}
 use Rattle.std.proofs.lemmas.Bool.Decides.{nat_tests}
 use Rattle.circuit_model.specs.Channels.{between}
 use Rattle.trace_text.specs.declared.fault.Reason.TheVariants.{Hex, Length}
@@ -39,12 +39,6 @@ some_is (Some w) P p v e = let same : w ≡ v = cc in subst P same p
 -- the value of a digit is below 16
 pub digit_small : (octet v : ℕ) → digit_value octet ≡ Some v → v < 16
 digit_small octet v e = some_is (digit_value octet) (λ v. v < 16) (by_kind octet (λ v. v < 16) (λ l h. omega arith) (λ l h. omega arith) (λ l h. omega arith)) v e
-
--- the low half of a digit's octet, and nine more for a letter
-pub digit_reckoned : (octet v : ℕ) → digit_value octet ≡ Some v → octet % 16 + 9 * (octet / 64) ≡ v
-digit_reckoned octet v e =
-    let P : ℕ → Type 0 = λ v. octet % 16 + 9 * (octet / 64) ≡ v in
-    some_is (digit_value octet) P (by_kind octet P (λ l h. omega arith) (λ l h. omega arith) (λ l h. omega arith)) v e
 
 -- ---- pairs of digits
 
@@ -155,31 +149,6 @@ thirty_none (Some octets) h = absurd cc
 pub thirty_refused_digits : (digits : List ℕ) → is_some (octets_written digits) ≡ false → thirty (octets_written digits) ≡ Err Hex
 thirty_refused_digits digits h = thirty_none (octets_written digits) h
 
--- ---- a loop over pairs
-
-behind-behind : (front : List ℕ) (octet : ℕ) (o : Option (List ℕ)) → behind front (behind (octet ∷ []) o) ≡ behind (front ++ octet ∷ []) o
-behind-behind front octet None = refl
-behind-behind front octet (Some octets) = ap (λ (l : List ℕ). Some l) (sym (append_assoc front (octet ∷ []) octets))
-
--- the digits from a pair on
-pub pair_at : (digits : List ℕ) (i : ℕ) → 2 * i + 1 < length digits → drop (2 * i) digits ≡ get_or digits (2 * i) 0 ∷ get_or digits (2 * i + 1) 0 ∷ drop (2 * (i + 1)) digits
-pair_at digits i lt =
-    let one = drop_more digits (2 * i) 0 (omega arith) in
-    let two = drop_more digits (2 * i + 1) 0 lt in
-    let place : 2 * i + 1 + 1 ≡ 2 * (i + 1) = omega arith in
-    rw (one, two, place) refl
-
--- one more pair is read
-pub behind_pair_read : (digits octets : List ℕ) (i h l : ℕ) → 2 * i + 1 < length digits → i < length octets
-    → digit_value (get_or digits (2 * i) 0) ≡ Some h → digit_value (get_or digits (2 * i + 1) 0) ≡ Some l
-    → behind (take i octets) (octets_written (drop (2 * i) digits)) ≡ octets_written digits
-    → behind (take (i + 1) (set octets i (h * 16 + l))) (octets_written (drop (2 * (i + 1)) digits)) ≡ octets_written digits
-behind_pair_read digits octets i h l lt room e f so_far =
-    let one = octets_written_pair_then (get_or digits (2 * i) 0) (get_or digits (2 * i + 1) 0) (drop (2 * (i + 1)) digits) h l e f in
-    let stepped : behind (take i octets) (octets_written (drop (2 * i) digits)) ≡ behind (take i octets ++ (h * 16 + l) ∷ []) (octets_written (drop (2 * (i + 1)) digits)) =
-    ap (λ o. behind (take i octets) o) (ap octets_written (pair_at digits i lt) ∙ one) ∙ behind-behind (take i octets) (h * 16 + l) (octets_written (drop (2 * (i + 1)) digits)) in
-    rw (take_more_set octets i (h * 16 + l) room) (sym stepped ∙ so_far)
-
 pub behind_nothing : (o : Option (List ℕ)) → behind [] o ≡ o
 behind_nothing None = refl
 behind_nothing (Some octets) = refl
@@ -236,10 +205,10 @@ octets_lost n digits before all even lost so_far =
     let both = ap octets_written (sym (take-append-drop n digits)) ∙ written_both (take n digits) (drop n digits) even in
     ap (λ o. ok_or o Hex) (sym so_far ∙ ap (behind before) both) ∙ lost_in (octets_written (take n digits)) (octets_written (drop n digits)) before lost
 
--- no digits are left
-pub octets_end : (octets rest : List ℕ) (written : Option (List ℕ)) → length rest ≡ 0 → behind octets (octets_written rest) ≡ written → written ≡ Some octets
-octets_end octets [] written empty so_far = sym so_far ∙ ap (λ (l : List ℕ). Some l) (append-nil octets)
-octets_end octets (x ∷ rest) written empty so_far = absurd (omega arith)
+-- digits that are left write nothing
+pub rest_lost : (before : List ℕ) (o all : Option (List ℕ)) → behind before o ≡ all → ok_or o Hex ≡ Err Hex → ok_or all Hex ≡ Err Hex
+rest_lost before None all so_far lost = ap (λ o. ok_or o Hex) (sym so_far)
+rest_lost before (Some octets) all so_far lost = absurd cc
 
 -- ---- at most n octets
 
@@ -297,45 +266,9 @@ are_octets (x ∷ y ∷ rest) =
 abbrev pub AreValues : List ℕ → List ℕ → Type 0
 AreValues values digits = map digit_value digits ≡ map (λ v. Some v) values
 
--- the value of one of the digits
-pub value_at : (values digits : List ℕ) (k : ℕ) → AreValues values digits → k < length values → digit_value (get_or digits k 0) ≡ Some (get_or values k 0)
-value_at [] digits k same lt = absurd (omega arith)
-value_at (v ∷ values) [] k same lt = absurd cc
-value_at (v ∷ values) (d ∷ digits) zero same lt = cc
-value_at (v ∷ values) (d ∷ digits) (suc k) same lt = let rest : AreValues values digits = cc in value_at values digits k rest (omega arith)
-
 -- as many digits as values
 pub as_many : (values digits : List ℕ) → AreValues values digits → length digits ≡ length values
 as_many values digits same = sym (length-map digits digit_value) ∙ ap length same ∙ length-map values (λ v. Some v)
-
--- one more digit has its value
-pub value_more : (values digits : List ℕ) (k v : ℕ) → k < length values → k < length digits → digit_value (get_or digits k 0) ≡ Some v
-    → AreValues (take k values) (take k digits) → AreValues (take (k + 1) (set values k v)) (take (k + 1) digits)
-value_more values digits k v room within e so_far =
-    rw (take_more_set values k v room, take_more digits k 0 within, map-append, map-append, e, so_far) refl
-
--- one more pair of digits with these values is read
-pub behind_values_read : (digits values octets : List ℕ) (i octet : ℕ) → AreValues values digits → 2 * i + 1 < length values → i < length octets
-    → octet ≡ ((get_or values (2 * i) 0 + 256 * get_or values (2 * i + 1) 0) * 16 % 65536 + (get_or values (2 * i) 0 + 256 * get_or values (2 * i + 1) 0) / 256) % 65536 % 256
-    → behind (take i octets) (octets_written (drop (2 * i) digits)) ≡ octets_written digits
-    → behind (take (i + 1) (set octets i octet)) (octets_written (drop (2 * (i + 1)) digits)) ≡ octets_written digits
-behind_values_read digits values octets i octet same lt room e so_far =
-    let h = get_or values (2 * i) 0 in
-    let l = get_or values (2 * i + 1) 0 in
-    let high : digit_value (get_or digits (2 * i) 0) ≡ Some h = value_at values digits (2 * i) same (omega arith) in
-    let low : digit_value (get_or digits (2 * i + 1) 0) ≡ Some l = value_at values digits (2 * i + 1) same lt in
-    let small = digit_small (get_or digits (2 * i) 0) h high in
-    let small_low = digit_small (get_or digits (2 * i + 1) 0) l low in
-    let whole : octet ≡ h * 16 + l = omega (arith, e, small, small_low) in
-    let many = as_many values digits same in
-    rw whole (behind_pair_read digits octets i h l (omega (arith, many)) room high low so_far)
-
--- all pairs of digits with these values are read
-pub octets_written_values_done : (digits values octets : List ℕ) → AreValues values digits → length values ≡ 64 → length octets ≡ 32
-    → behind (take 32 octets) (octets_written (drop 64 digits)) ≡ octets_written digits → octets_written digits ≡ Some octets
-octets_written_values_done digits values octets same v o so_far =
-    let many = as_many values digits same in
-    sym so_far ∙ rw (drop_all 64 digits (omega (arith, many, v)), take_all 32 octets (omega (arith, o))) (ap (λ (l : List ℕ). Some l) (append-nil octets))
 
 -- what digits write does not depend on digits behind them
 tail_of : (h : ℕ) (o : Option (List ℕ)) (octet : ℕ) (octets : List ℕ) → behind (h ∷ []) o ≡ Some (octet ∷ octets) → (h ≡ octet) × (o ≡ Some octets)
@@ -371,17 +304,9 @@ front_written (suc n) (x ∷ y ∷ digits) more octets d e =
 
 -- ---- reading them
 
--- each of some digits has a value
-pub value_found : (digits : List ℕ) (k : ℕ) → list_all is_digit digits ≡ true → k < length digits → (v : ℕ) × (digit_value (get_or digits k 0) ≡ Some v)
-value_found digits k all within =
-    elim (either (get_or digits k 0)) [
-      | inl found ↦ found.1
-      | inr lost ↦ let none = list_all_at is_digit digits k 0 within lost.0 in absurd cc
-    ]
-
--- n digits, and more behind them up to sixty-four
+-- n digits, and more behind them up to thirty-two
 abbrev pub widened : List ℕ → List ℕ
-widened digits = digits ++ replicate (64 - length digits) 48
+widened digits = digits ++ replicate (32 - length digits) 48
 
 zeros_are : (n : ℕ) → list_all is_digit (replicate n 48) ≡ true
 zeros_are zero = refl
@@ -390,8 +315,8 @@ zeros_are (suc n) = zeros_are n
 -- digits behind others don't tell whether these are digits
 pub lost_wide : (digits : List ℕ) → length digits % 2 ≡ 0 → list_all is_digit (widened digits) ≡ false → is_some (octets_written digits) ≡ false
 lost_wide digits even lost =
-    let more = replicate (64 - length digits) 48 in
-    let front : (list_all is_digit digits && true) ≡ false = sym (ap (λ b. list_all is_digit digits && b) (zeros_are (64 - length digits))) ∙ sym (list_all-append is_digit digits more) ∙ lost in
+    let more = replicate (32 - length digits) 48 in
+    let front : (list_all is_digit digits && true) ≡ false = sym (ap (λ b. list_all is_digit digits && b) (zeros_are (32 - length digits))) ∙ sym (list_all-append is_digit digits more) ∙ lost in
     all_digits digits even ∙ and_false (list_all is_digit digits) front
 
 pub is_thirty : (digits octets : List ℕ) (o : Option (List ℕ)) → o ≡ Some octets → length digits ≡ 60 → IfSome o (λ octets. length digits ≡ 2 * length octets) → thirty o ≡ Ok octets
@@ -401,22 +326,17 @@ is_thirty digits octets (Some others) e sixty half =
     let full : eqb (length others) 30 ≡ true = eq-eqb (length others) 30 (omega arith) in
     rw (full, same) refl
 
--- the first thirty of the octets that sixty digits and four more write
-pub thirty_wide : (digits octets : List ℕ) → length digits ≡ 60 → octets_written (widened digits) ≡ Some octets → thirty (octets_written digits) ≡ Ok (take 30 octets)
-thirty_wide digits octets sixty e =
-    is_thirty digits (take 30 octets) (octets_written digits) (front_written 30 digits (replicate (64 - length digits) 48) octets (omega arith) e) sixty (written_length digits)
-
 -- digits in pairs that are none
 pub hex_lost : (o : Option (List ℕ)) → is_some o ≡ false → ok_or o Hex ≡ Err Hex
 hex_lost None h = refl
 hex_lost (Some octets) h = absurd cc
 
--- at most sixty-four digits, which are looked at with zeros behind them: they are lost where those are, and else the beginning of what is read
+-- at most thirty-two digits, which are looked at with zeros behind them: they are lost where those are, and else the beginning of what is read
 pub wide_lost : (digits text : List ℕ) → length digits % 2 ≡ 0 → text ≡ widened digits → list_all is_digit text ≡ false → ok_or (octets_written digits) Hex ≡ Err Hex
 wide_lost digits text even wide lost = hex_lost (octets_written digits) (lost_wide digits even (ap (λ ds. list_all is_digit ds) (sym wide) ∙ lost))
 
 pub wide_written : (digits text read : List ℕ) → length digits % 2 ≡ 0 → text ≡ widened digits → octets_written text ≡ Some read → octets_written digits ≡ Some (take (length digits / 2) read)
-wide_written digits text read even wide all = front_written (length digits / 2) digits (replicate (64 - length digits) 48) read (omega (arith, even)) (ap octets_written (sym wide) ∙ all)
+wide_written digits text read even wide all = front_written (length digits / 2) digits (replicate (32 - length digits) 48) read (omega (arith, even)) (ap octets_written (sym wide) ∙ all)
 
 -- a fault of some digits is one of all
 pub fails_lost : (e : LineError) (o all : Option (List ℕ)) → (ok_or o Hex ≡ Err Hex → ok_or all Hex ≡ Err Hex) → Fails e (ok_or o Hex) → Fails e (ok_or all Hex)
@@ -434,7 +354,3 @@ pub letter_digit : (octet : ℕ) → octet < 256 → ltb ((octet + 208) % 256) 1
 letter_digit octet small none =
     let same : by_ranges octet ≡ is_digit octet = agree_below_at by_ranges is_digit 256 octet refl small in
     rw none at same
-
--- all digits have their values
-pub values_all : (values digits : List ℕ) (k : ℕ) → 64 ≤ k → length values ≡ 64 → length digits ≡ 64 → AreValues (take k values) (take k digits) → AreValues values digits
-values_all values digits k all v d so_far = rw (take_all k values (omega arith), take_all k digits (omega arith)) at so_far

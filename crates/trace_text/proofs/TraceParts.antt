@@ -1,11 +1,12 @@
 -- A line of words, and the parts of a frame, one after the other.
-use Rattle.std.proofs.Common.{◌≡◌, ℕ, true, false, List, ◌∷◌, get_or, set, Some, None, is_some, Ok, codes, refl}
+use Rattle.std.proofs.Common.{◌≡◌, ℕ, true, false, List, [], ◌∷◌, replicate, get_or, set, Some, None, is_some, Ok, codes, refl}
 use Rattle.circuit_model.specs.FrameInput.{Input}
 use Rattle.std.specs.List.{list_all}
 use Rattle.trace_text.specs.declared.limits.Limits.{Limits}
 use Rattle.trace_text.specs.declared.said.Sizes.{Sizes}
 use Rattle.trace_text.specs.declared.said.Said.{Said}
-use Rattle.trace_text.specs.declared.said.Said.TheVariants.{Sync}
+use Rattle.trace_text.specs.declared.said.Said.TheVariants.{Sync, Happens}
+use Rattle.exchange_events.specs.declared.trace.Event.TheVariants.{Frame}
 use Rattle.trace_text.specs.declared.fault.LineError.{LineError}
 use Rattle.trace_text.specs.declared.fault.LineError.TheVariants.{Memory, Refused}
 use Rattle.trace_text.specs.TraceWords.{words, cut_at, is_comment, is_printable}
@@ -26,6 +27,10 @@ reads_by_kind s sizes line first others known a b c = rw (a, known, b, c) refl
 -- a line that is `sync`
 pub reads_sync : (s : SoFar) (sizes : Sizes) (line : List ℕ) → s.sizes ≡ Some sizes → line ≡ codes "sync" → reads s line ≡ Ok Sync
 reads_sync s sizes line known is = rw (is, known) refl
+
+-- a frame without fields
+pub reads_idle : (s : SoFar) (sizes : Sizes) (line : List ℕ) → s.sizes ≡ Some sizes → line ≡ 70 ∷ [] → reads s line ≡ Ok (Happens (Frame (replicate sizes.external None)))
+reads_idle s sizes line known is = rw (is, known) refl
 
 -- both steps of a line
 pub says_both : (limits : Limits) (s : SoFar) (line : List ℕ) (said : Said) → reads s line ≡ Ok said → joins limits s said ≡ Ok said → says limits s line ≡ Ok said

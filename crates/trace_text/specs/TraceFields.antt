@@ -1,6 +1,6 @@
 -- The fields of a trace's lines: lines, slots and rooms of the exchange, octets in hexadecimal digits, sizes. Source: this project. The channels are
 -- from ITU-T Q.931 (05/98), section 4.5.13.
-use Rattle.std.specs.Prelude.{ℕ, ◌+◌, ◌-◌, ◌*◌, ◌/◌, ◌%◌, Bool, ◌&&◌, nat_lt, nat_le, ◌==◌, List, [], ◌∷◌, length, codes, Option, Some, None, option_and_then, is_some, Result, Ok, Err, if◌then◌else◌}
+use Rattle.std.specs.Prelude.{ℕ, ◌+◌, ◌-◌, ◌*◌, Bool, ◌&&◌, nat_lt, nat_le, ◌==◌, List, [], ◌∷◌, length, codes, Option, Some, None, option_and_then, is_some, Result, Ok, Err, if◌then◌else◌}
 use Rattle.std.specs.Str.{bytes_eq}
 use Rattle.circuit_model.specs.Channels.{between, place_of}
 use Rattle.circuit_model.specs.declared.channel.Slot.{Slot}
@@ -51,9 +51,9 @@ digit_value digit =
     else if between 97 102 digit then Some (digit - 87)
     else None
 
--- the low half of an octet, and nine more for a letter
-abbrev pub reckoned : ℕ → ℕ
-reckoned digit = digit % 16 + 9 * (digit / 64)
+-- a number below 16
+abbrev pub below_sixteen : ℕ → Option ℕ
+below_sixteen value = if nat_le 16 value then None else Some value
 
 -- the octet is a hexadecimal digit
 abbrev pub is_digit : ℕ → Bool

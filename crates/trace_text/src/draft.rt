@@ -17,9 +17,10 @@ pub struct Draft {
 }
 
 impl Draft {
-    ghost use Rattle.std.specs.Prelude.{◌≡◌, ◌<◌, ◌++◌, ◌∷◌, [], List, Ok, OnOk, IfOk, IfErr};
+    ghost use Rattle.std.specs.Prelude.{◌≡◌, ◌<◌, ◌++◌, ◌∷◌, [], ℕ, List, Ok, OnOk, IfOk, IfErr};
     ghost use Rattle.trace_text.specs.declared.said.Said.{Said};
-    ghost use Rattle.trace_text.specs.TraceLines.{trace_limits, says, Fails};
+    ghost use Rattle.trace_text.specs.declared.said.Said.TheVariants.{Happens};
+    ghost use Rattle.trace_text.specs.TraceLines.{trace_limits, reads, says, Fails};
     ghost use Rattle.trace_text.specs.TraceGrammar.{so_far, IsWhatLinesSay};
     ghost use Rattle.trace_text.specs.TraceDraft.{Holds, IsEnded, FailsAtEnd};
 
@@ -48,13 +49,26 @@ impl Draft {
         Ok(())
     }
 
-    /// Reads one more line.
-    ///
-    /// # Errors
-    ///
-    /// - [`LineError::Refused`] if the line fails a check, with the first one.
-    /// - [`LineError::Memory`] if an allocation fails.
-    pub fn read_line(&mut self, alloc: Global, line: &[u8]) -> Result<(), LineError>
+    // Counts and appends the event of a line.
+    #[inline(always)]
+    fn push_event(&mut self, event: Event) -> Result<(), LineError>
+        ensures read { OnOk result ((line : List ℕ) → reads self.old.heading line ≡ Ok (Happens event) → (told : List Said) →
+            Holds self.old told → (said : Said)
+            × (says trace_limits (so_far told) line ≡ Ok said)
+            × Holds self.new (told ++ said ∷ [])) }
+        ensures refused { IfErr result (λ e. (line : List ℕ) → reads self.old.heading line ≡ Ok (Happens event) →
+            Fails e (says trace_limits self.old.heading line)) }
+    {
+        if let Err(why) = self.heading.count_event(Limits::for_trace()) {
+            return Err(LineError::Refused(why));
+        }
+        self.events.push(event)?;
+        Ok(())
+    }
+
+    // Reads a line in any form. It is a separate function because it clears the large local values of rare lines.
+    #[inline(never)]
+    fn read_rare_line(&mut self, alloc: Global, line: &[u8]) -> Result<(), LineError>
         ensures read { OnOk result ((told : List Said) →
             Holds self.old told → (said : Said)
             × (says trace_limits (so_far told) line.now ≡ Ok said)
@@ -70,6 +84,48 @@ impl Draft {
                 self.changes.push(self.begun)?;
             }
         }
+        Ok(())
+    }
+
+    // Reads a line that is not a message or `sync` in the common form.
+    #[inline(never)]
+    fn read_other_line(&mut self, alloc: Global, line: &[u8]) -> Result<(), LineError>
+        ensures read { OnOk result ((told : List Said) →
+            Holds self.old told → (said : Said)
+            × (says trace_limits (so_far told) line.now ≡ Ok said)
+            × Holds self.new (told ++ said ∷ [])) }
+        ensures refused { IfErr result (λ e. Fails e (says trace_limits self.old.heading line.now)) }
+    {
+        let Some(event) = self.heading.other_event(alloc, line)? else {
+            return self.read_rare_line(alloc, line);
+        };
+        self.push_event(event)?;
+        Ok(())
+    }
+
+    /// Reads one more line.
+    ///
+    /// # Errors
+    ///
+    /// - [`LineError::Refused`] if the line fails a check, with the first one.
+    /// - [`LineError::Memory`] if an allocation fails.
+    #[inline(always)]
+    pub fn read_line(&mut self, alloc: Global, line: &[u8]) -> Result<(), LineError>
+        ensures read { OnOk result ((told : List Said) →
+            Holds self.old told → (said : Said)
+            × (says trace_limits (so_far told) line.now ≡ Ok said)
+            × Holds self.new (told ++ said ∷ [])) }
+        ensures refused { IfErr result (λ e. Fails e (says trace_limits self.old.heading line.now)) }
+    {
+        // Most lines of a trace of messages are messages and `sync`.
+        if self.heading.is_sync(line) {
+            self.end_segment()?;
+            return Ok(());
+        }
+        let Some(event) = self.heading.common_event(alloc, line) else {
+            return self.read_other_line(alloc, line);
+        };
+        self.push_event(event)?;
         Ok(())
     }
 

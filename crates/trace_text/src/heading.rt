@@ -15,7 +15,7 @@ use crate::said::{GivenTone, LineKind, Said, Sizes};
 use crate::timing::GivenTimers;
 use call_timers::Timers;
 use circuit_model::Kind as Tone;
-use exchange_events::Event;
+use exchange_events::{Event, Input};
 use number_plan::Plan;
 use std::alloc::{AllocError, Global};
 use std::marker::Model;
@@ -254,8 +254,28 @@ impl Heading {
         }
     }
 
-    // Returns the event of a line in the common form. `None` for any other line.
-    fn plain_event(&self, alloc: Global, line: &[u8]) -> Result<Option<Event>, AllocError>
+    /// Returns the event of a message or of a frame without fields, in the common form. `None` for any other line.
+    #[inline(always)]
+    pub(crate) fn common_event(&self, alloc: Global, line: &[u8]) -> Option<Event>
+        ensures { IfSome result (λ event. reads self.now line.now ≡ Ok (Said.Happens event)) }
+    {
+        let Some(sizes) = self.sizes else {
+            return None;
+        };
+        match line {
+            [b'M', ..] => plain_message(alloc, sizes.external, line),
+            [b'F'] => Some(Event::Frame(Input::idle(sizes.external))),
+            _ => None,
+        }
+    }
+
+    /// Returns the frame, nailed connection or release of a line in the common form. `None` for any other line.
+    #[inline(always)]
+    pub(crate) fn other_event(
+        &self,
+        alloc: Global,
+        line: &[u8],
+    ) -> Result<Option<Event>, AllocError>
         ensures { IfOk result (λ found. IfSome found (λ event. reads self.now line.now ≡ Ok (Said.Happens event))) }
     {
         let Some(sizes) = self.sizes else {
@@ -263,15 +283,25 @@ impl Heading {
         };
         match line {
             [b'F', rest @ ..] if ends_word(rest) => plain_frame(alloc, sizes.external, rest),
-            [b'M', ..] => Ok(plain_message(alloc, sizes.external, line)),
             [b'n', ..] => Ok(plain_nail(sizes.external, line)),
             [b'f', ..] => Ok(plain_free(sizes.external, line)),
             _ => Ok(None),
         }
     }
 
-    // Returns whether a line is `sync` in the common form, after the header.
-    fn is_sync(&self, line: &[u8]) -> bool
+    // Returns the event of a line in the common form. `None` for any other line.
+    fn plain_event(&self, alloc: Global, line: &[u8]) -> Result<Option<Event>, AllocError>
+        ensures { IfOk result (λ found. IfSome found (λ event. reads self.now line.now ≡ Ok (Said.Happens event))) }
+    {
+        match self.common_event(alloc, line) {
+            Some(event) => Ok(Some(event)),
+            None => self.other_event(alloc, line),
+        }
+    }
+
+    /// Returns whether a line is `sync` in the common form, after the header.
+    #[inline(always)]
+    pub(crate) fn is_sync(&self, line: &[u8]) -> bool
         ensures { IsTrue result → reads self.now line.now ≡ Ok Said.Sync }
     {
         self.sizes.is_some() && matches!(line, [b's', b'y', b'n', b'c'])

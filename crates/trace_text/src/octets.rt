@@ -1,10 +1,9 @@
 // Octets in hexadecimal digits.
 //
-// The loops read 64 digits at a time. They have a fixed length, no table, and one test at their end, so that they
-// become vector instructions. Fewer digits are padded to 64.
-ghost use Rattle.std.specs.Prelude.{◌≡◌, ◌++◌, ◌*◌, ◌-◌, ◌%◌, ◌<◌, ◌≤◌, ◌^◌, ℕ, List, length, take, drop, true, Some, is_some, option_map, map, replicate, ok_or, IfOk, IfErr, OnOk, Ok};
+// The functions read 32 digits at a time, by vectors. Fewer digits are padded to 32.
+ghost use Rattle.std.specs.Prelude.{◌≡◌, ◌++◌, ◌+◌, ◌-◌, ◌%◌, ◌<◌, ◌≤◌, ◌^◌, not, nat_le, ℕ, List, length, take, drop, Some, is_some, option_map, map, replicate, ok_or, IfOk, IfErr, OnOk, Ok};
 ghost use Rattle.std.specs.List.{list_all};
-ghost use Rattle.trace_text.specs.TraceFields.{digit_value, reckoned, is_digit, octets_written, thirty, at_most, max_message_len, of_tone};
+ghost use Rattle.trace_text.specs.TraceFields.{digit_value, below_sixteen, is_digit, octets_written, thirty, at_most, max_message_len, of_tone};
 ghost use Rattle.trace_text.specs.TraceLines.{Fails, Gives};
 
 use crate::fault::{LineError, Reason};
@@ -27,14 +26,6 @@ fn is_digit(octet: u8) -> bool
     octet.wrapping_sub(b'0') < 10 || (octet | 0x20).wrapping_sub(b'a') < 6
 }
 
-// Returns the value of a digit: the low half of its octet, plus 9 for a letter. The value for another octet is not
-// specified.
-fn value(digit: u8) -> u8
-    ensures { (v : ℕ) → digit_value digit ≡ Some v → result ≡ v }
-{
-    digit % 16 + 9 * (digit / 64)
-}
-
 // Returns whether the octets are pairs of hexadecimal digits.
 fn are_pairs(digits: &[u8]) -> bool
     ensures { result ≡ is_some (octets_written digits.now) }
@@ -42,50 +33,63 @@ fn are_pairs(digits: &[u8]) -> bool
     digits.len() % 2 == 0 && digits.iter().all(|octet| is_digit(*octet))
 }
 
-// Pads at most 64 digits with `0` to 64.
-fn wide(digits: &[u8]) -> [u8; 64]
-    requires { length digits.now ≤ 64 }
-    ensures { result ≡ digits.now ++ replicate (64 - length digits.now) 48 }
+// Pads at most 32 digits with `0` to 32.
+#[inline(always)]
+fn wide(digits: &[u8]) -> [u8; 32]
+    requires { length digits.now ≤ 32 }
+    ensures { result ≡ digits.now ++ replicate (32 - length digits.now) 48 }
 {
-    let mut text = [b'0'; 64];
+    let mut text = [b'0'; 32];
     text[..digits.len()].copy_from_slice(digits);
     text
 }
 
-// Returns whether all octets are digits, without an early exit.
-fn are_digits(text: &[u8; 64]) -> bool
-    ensures { result ≡ list_all is_digit text.now }
+// Returns the values of 16 digits. The value for an octet that is not a digit is at least 16.
+//
+// The values of `0` to `9` come from a sum that wraps at `:`, and those of letters from a sum that stops at 255. The
+// other one of the two is at least 16.
+#[inline(always)]
+fn digit_values(digits: u8x16) -> u8x16
+    ensures { map digit_value digits ≡ map below_sixteen result }
 {
-    let mut all = true;
-    for octet in text {
-        all &= is_digit(*octet);
-    }
-    all
+    let wrapped = (digits + u8x16::splat(198)).simd_max(u8x16::splat(6));
+    let numerals = wrapped + u8x16::splat(10);
+    // `& 0xDF` makes a letter upper-case.
+    let upper = (digits & u8x16::splat(0xDF)) + u8x16::splat(191);
+    let letters = upper.simd_min(u8x16::splat(245)) + u8x16::splat(10);
+    numerals.simd_min(letters)
 }
 
-// Returns the values of the digits.
-fn values_of(digits: &[u8; 64]) -> [u8; 64]
-    requires { list_all is_digit digits.now ≡ true }
-    ensures { map digit_value digits.now ≡ map Some result }
+// Returns whether all values are those of digits.
+#[inline(always)]
+fn are_values(first: u8x16, second: u8x16) -> bool
+    ensures { result ≡ list_all (λ v. not (nat_le 16 v)) (first ++ second) }
 {
-    let mut values = [0; 64];
-    for place in 0..64 {
-        values[place] = value(digits[place]);
-    }
-    values
+    let sixteen = u8x16::splat(16);
+    (first.simd_ge(sixteen) | second.simd_ge(sixteen)).to_bitmask() == 0
 }
 
-// Returns the octets of digits with these values. The two values of an octet are combined as one number, so that the
-// loop becomes vector instructions.
-fn octets_of(values: &[u8; 64]) -> [u8; 32]
-    ensures { (digits : List ℕ) → map digit_value digits ≡ map Some values.now → octets_written digits ≡ Some result }
+// Returns the octets of 32 digits with these values.
+#[inline(always)]
+fn joined(first: u8x16, second: u8x16) -> u8x16
+    ensures { (digits : List ℕ) → map digit_value digits ≡ map Some (first ++ second) → octets_written digits ≡ Some result }
 {
-    let mut octets = [0; 32];
-    for place in 0..32 {
-        let pair = u16::from(values[2 * place]) + 256 * u16::from(values[2 * place + 1]);
-        octets[place] = (pair.wrapping_mul(16).wrapping_add(pair / 256) % 256) as u8;
+    let (high, low) = first.deinterleave(second);
+    (high << u8x16::splat(4)) | low
+}
+
+// Returns the octets of the 32 digits from one on. `None` if an octet is not a digit.
+#[inline(always)]
+fn octets_from(digits: &[u8], start: usize) -> Option<[u8; 16]>
+    requires { start + 32 ≤ length digits.now }
+    ensures { result ≡ octets_written (take 32 (drop start digits.now)) }
+{
+    let first = digit_values(u8x16::from_slice(&digits[start..]));
+    let second = digit_values(u8x16::from_slice(&digits[start + 16..]));
+    if !are_values(first, second) {
+        return None;
     }
-    octets
+    Some(joined(first, second).to_array())
 }
 
 /// Returns the 30 octets of a line of one frame, from 60 hexadecimal digits.
@@ -99,70 +103,51 @@ pub(crate) fn thirty_octets(digits: &[u8]) -> Result<[u8; 30], Reason>
             Reason::Hex
         });
     }
-    let text = wide(digits);
-    if !are_digits(&text) {
+    let Some(first) = octets_from(digits, 0) else {
         return Err(Reason::Hex);
-    }
-    Ok(thirty_of(&text))
+    };
+    let Some(last) = octets_from(digits, 28) else {
+        return Err(Reason::Hex);
+    };
+    Ok(thirty_of(u8x16::from_array(first), u8x16::from_array(last)))
 }
 
-// Returns the octets of the first 60 of these digits.
-fn thirty_of(text: &[u8; 64]) -> [u8; 30]
-    requires { list_all is_digit text.now ≡ true }
-    ensures { octets_written (take 60 text.now) ≡ Some result }
+// Returns the first 14 octets of `first` and the octets of `last`.
+#[inline(always)]
+fn thirty_of(first: u8x16, last: u8x16) -> [u8; 30]
+    ensures { result ≡ take 14 first ++ last }
 {
     let mut octets = [0; 30];
-    let front = octets_from(text, 0);
-    let back = octets_from(text, 28);
-    front.copy_to_slice(&mut octets[..16]);
-    back.copy_to_slice(&mut octets[14..]);
+    first.copy_to_slice(&mut octets[..16]);
+    last.copy_to_slice(&mut octets[14..]);
     octets
 }
 
-// Returns the octets of the 32 digits from one on.
+// Appends the octets of 32 digits.
 #[inline(always)]
-fn octets_from(text: &[u8; 64], start: usize) -> u8x16
-    requires digits { list_all is_digit text.now ≡ true }
-    requires start { start ≤ 32 }
-    ensures { octets_written (take 32 (drop start text.now)) ≡ Some result }
+fn push_sixteen(octets: &mut Vec<u8>, digits: &[u8]) -> Result<(), LineError>
+    requires { length digits.now ≡ 32 }
+    ensures read { OnOk result (option_map (λ written. octets.old.items ++ written) (octets_written digits.now) ≡ Some octets.new.items) }
+    ensures refused { IfErr result (λ e. Fails e (ok_or (octets_written digits.now) Reason.Hex)) }
 {
-    sixteen_octets(
-        u8x16::from_slice(&text[start..]),
-        u8x16::from_slice(&text[start + 16..]),
-    )
+    let Some(read) = octets_from(digits, 0) else {
+        return Err(LineError::Refused(Reason::Hex));
+    };
+    octets.extend_from_slice(&read)?;
+    Ok(())
 }
 
-// Returns the octets of 32 digits.
+// Appends the octets of at most 32 digits.
 #[inline(always)]
-fn sixteen_octets(first: u8x16, second: u8x16) -> u8x16
-    requires { list_all is_digit (first ++ second) ≡ true }
-    ensures { octets_written (first ++ second) ≡ Some result }
-{
-    let (high, low) = digit_values(first).deinterleave(digit_values(second));
-    (high << u8x16::splat(4)) | low
-}
-
-// Returns the values of sixteen digits: the low half of each octet, plus 9 for a letter. The value for another octet is
-// not specified.
-#[inline(always)]
-fn digit_values(digits: u8x16) -> u8x16
-    ensures { result ≡ map reckoned digits }
-{
-    let letters = digits >> u8x16::splat(6);
-    (digits & u8x16::splat(15)) + letters + (letters << u8x16::splat(3))
-}
-
-// Appends the octets of at most 64 digits.
 fn push_octets(octets: &mut Vec<u8>, digits: &[u8]) -> Result<(), LineError>
-    requires { (length digits.now ≤ 64) × (length digits.now % 2 ≡ 0) }
+    requires { (length digits.now ≤ 32) × (length digits.now % 2 ≡ 0) }
     ensures read { OnOk result (option_map (λ written. octets.old.items ++ written) (octets_written digits.now) ≡ Some octets.new.items) }
     ensures refused { IfErr result (λ e. Fails e (ok_or (octets_written digits.now) Reason.Hex)) }
 {
     let text = wide(digits);
-    if !are_digits(&text) {
+    let Some(read) = octets_from(&text, 0) else {
         return Err(LineError::Refused(Reason::Hex));
-    }
-    let read = octets_of(&values_of(&text));
+    };
     octets.extend_from_slice(&read[..digits.len() / 2])?;
     Ok(())
 }
@@ -177,11 +162,12 @@ fn octets_read(alloc: Global, digits: &[u8]) -> Result<Vec<u8>, LineError>
     }
     let mut octets = Vec::with_capacity(alloc, digits.len() / 2)?;
     let mut rest = digits;
-    while !rest.is_empty() {
-        let (front, others) = rest.split_at(rest.len().min(64));
-        push_octets(&mut octets, front)?;
+    while rest.len() > 32 {
+        let (front, others) = rest.split_at(32);
+        push_sixteen(&mut octets, front)?;
         rest = others;
     }
+    push_octets(&mut octets, rest)?;
     Ok(octets)
 }
 
@@ -201,16 +187,16 @@ fn octets_up_to(alloc: Global, most: usize, digits: &[u8]) -> Result<Vec<u8>, Li
 }
 
 // Returns the octets of at most 32 digits. It does not allocate.
+#[inline(always)]
 fn few_octets(digits: &[u8]) -> Result<Octets, LineError>
     requires { (length digits.now ≤ 32) × (length digits.now % 2 ≡ 0) }
     ensures read { IfOk result (λ octets. octets_written digits.now ≡ Some octets) }
     ensures refused { IfErr result (λ e. Fails e (ok_or (octets_written digits.now) Reason.Hex)) }
 {
     let text = wide(digits);
-    if !are_digits(&text) {
+    let Some(read) = octets_from(&text, 0) else {
         return Err(LineError::Refused(Reason::Hex));
-    }
-    let read = octets_of(&values_of(&text));
+    };
     Ok(Octets::from_short_slice(&read[..digits.len() / 2]))
 }
 
@@ -233,6 +219,7 @@ pub fn octets_at_most(alloc: Global, most: usize, digits: &[u8]) -> Result<Octet
 }
 
 /// Returns the octets of a message, at most 260. Up to 16 octets do not allocate.
+#[inline(always)]
 pub(crate) fn message_octets(alloc: Global, digits: &[u8]) -> Result<Octets, LineError>
     ensures { Gives result (at_most max_message_len (octets_written digits.now)) }
 {

@@ -146,6 +146,7 @@ pub(crate) fn plain_free(external: u8, line: &[u8]) -> Option<Event>
 }
 
 /// Returns the message of a line in the common form. `None` for any other line.
+#[inline(always)]
 pub(crate) fn plain_message(alloc: Global, external: u8, line: &[u8]) -> Option<Event>
     ensures { IfSome result (λ event. IsPlain (codes "M") (message external) line.now event) }
 {

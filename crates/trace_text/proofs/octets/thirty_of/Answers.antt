@@ -1,5 +1,5 @@
-use Rattle.trace_text.proofs.DigitVectors.{sixty_put}
+use Rattle.trace_text.proofs.DigitVectors.{thirty_put}
 use Rattle.trace_text.proofs.octets.thirty_of.Goals as goal
 
 pub returns : goal.returns
-returns c = sixty_put c.args.text.now c.octets_from-front.result c.octets_from-back.result c.told-text c.octets_from-front.ensures c.octets_from-back.ensures
+returns c = thirty_put c.args.first c.args.last c.fits-first.0 c.fits-last.0

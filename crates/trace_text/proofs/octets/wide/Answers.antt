@@ -5,4 +5,4 @@ use Rattle.trace_text.proofs.octets.wide.Goals as goal
 pub returns : goal.returns
 returns c =
     let digits : List ℕ = c.args.digits.now in
-    rw c.copy_from_slice.ensures.after (ap (λ (more : List ℕ). digits ++ more) (drop-replicate (length digits) 64 48))
+    rw c.copy_from_slice.ensures.after (ap (λ (more : List ℕ). digits ++ more) (drop-replicate (length digits) 32 48))

@@ -3,7 +3,7 @@ use Rattle.std.proofs.lemmas.Result.{IfOk-weaker}
 use Rattle.trace_text.specs.TraceLines.{SoFar, reads}
 use Rattle.trace_text.specs.TracePlain.{ends_word}
 use Rattle.trace_text.proofs.PlainLemmas.{first_is, frame_reads, some_weaker}
-use Rattle.trace_text.proofs.heading.Heading.plain_event.Goals as goal
+use Rattle.trace_text.proofs.heading.Heading.other_event.Goals as goal
 
 pub returns-in-70 : goal.returns-in-70
 returns-in-70 c =
