@@ -1,9 +1,12 @@
 -- Lines and words, cut off at the beginning of a row of octets.
-use Rattle.std.proofs.Common.{◌≡◌, ◌≢◌, ℕ, zero, suc, ◌+◌, ◌<◌, Bool, true, false, eqb, List, [], ◌∷◌, length, get_or, take, drop, Option, Some, None, unwrap_or, option_map, refl, sym, ap, arith}
+use Rattle.std.proofs.Common.{◌≡◌, ◌≢◌, ℕ, zero, suc, ◌+◌, ◌<◌, ◌≤◌, not, map, subst, ◌∙◌, Bool, true, false, eqb, List, [], ◌∷◌, length, get_or, take, drop, Option, Some, None, unwrap_or, option_map, refl, sym, ap, arith}
 use Rattle.std.specs.Prelude.{position}
-use Rattle.std.specs.List.{slice_split}
+use lib.Count.{count_trailing_zeros}
+use Rattle.std.specs.List.{slice_split, prefix_len}
+use Rattle.std.specs.Simd.Lanes.{chunk, mask_l}
 use Rattle.std.proofs.lemmas.Bool.{eqb-true, ne_eqb}
 use Rattle.std.proofs.lemmas.List.{take_all, drop_all}
+use Rattle.std.proofs.lemmas.Simd.{length-chunk, trailing_mask_l, run_in_chunk_fails, run_in_chunk_stops}
 use Rattle.memchr.specs.Find.{IsFirstByte, is_byte}
 use Rattle.trace_text.specs.TraceWords.{lines, words, cut_at, is_octet}
 
@@ -26,6 +29,31 @@ first_found mark octets k h = record { within = h.0.high; here = h.1; before = �
 
 pub NoMark_not_found : (mark : ℕ) (octets : List ℕ) → IsFirstByte (is_byte mark) octets None → NoMark mark octets
 NoMark_not_found mark octets h j lt = not_true _ (h j (omega arith) lt)
+
+-- the first mark, if a mask has it among the first thirty-two octets
+some_bit : (m : ℕ) → count_trailing_zeros 64 m < 32 → 0 < m
+unfolding count_trailing_zeros
+some_bit zero near = let e : 64 < 32 = near in absurd (omega (arith, e))
+some_bit (suc m) near = omega arith
+
+both_ways : (b : Bool) → b ≡ true → b ≡ false → ⊥
+both_ways true holds fails = absurd cc
+both_ways false holds fails = absurd cc
+
+pub near_found : (mark : ℕ) (octets : List ℕ) (m : ℕ) → 32 ≤ length octets → m ≡ mask_l (map (λ x. eqb x mark) (chunk 0 32 octets)) → count_trailing_zeros 64 m < 32
+    → IsFirstByte (is_byte mark) octets (Some (count_trailing_zeros 64 m))
+near_found mark octets m room hits near =
+    let long : length (chunk 0 32 octets) ≡ 32 = length-chunk 0 32 octets room in
+    let counted : count_trailing_zeros 64 m ≡ prefix_len (λ x. not (eqb x mark)) (chunk 0 32 octets) =
+    ap (count_trailing_zeros 64) hits ∙ trailing_mask_l (λ x. eqb x mark) 64 (chunk 0 32 octets) (omega (arith, long)) (subst (λ n. 0 < n) hits (some_bit m near)) in
+    let at : 0 + count_trailing_zeros 64 m ≡ count_trailing_zeros 64 m = omega arith in (
+      record {
+        low = omega arith;
+        high = omega (arith, near, room);
+        before = λ k from below is. both_ways _ is (run_in_chunk_fails (λ x. eqb x mark) octets 0 32 (count_trailing_zeros 64 m) 0 room counted k from (omega (arith, below)));
+      },
+      subst (λ k. eqb (get_or octets k 0) mark ≡ true) at (run_in_chunk_stops (λ x. eqb x mark) octets 0 32 (count_trailing_zeros 64 m) 0 room counted near),
+    )
 
 rest_mark : (mark x : ℕ) (xs : List ℕ) (k : ℕ) → IsFirstMark mark (x ∷ xs) (suc k) → IsFirstMark mark xs k
 rest_mark mark x xs k h = record { within = let w : suc k < length (x ∷ xs) = h.within in omega arith; here = h.here; before = λ j lt. h.before (suc j) (omega arith) }

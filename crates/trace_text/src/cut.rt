@@ -1,15 +1,35 @@
 // Lines, fields and decimal numbers, as slices of borrowed octets.
-ghost use Rattle.std.specs.Prelude.{◌≡◌, ◌≢◌, ◌<◌, ◌≤◌, ◌∷◌, [], length, slice_index, MatchOption, option_map};
+ghost use Rattle.std.specs.Prelude.{◌≡◌, ◌≢◌, ◌<◌, ◌≤◌, ◌∷◌, [], length, slice_index, MatchOption, IfSome, Some, option_map};
 ghost use Rattle.std.specs.List.{list_all};
+ghost use Rattle.memchr.specs.Find.{IsFirstByte, is_byte};
 ghost use Rattle.trace_text.specs.TraceWords.{lines, words, two, one_or_two, three, digits_and_target, cut_at, numeral, is_printable};
 
 use memchr::memchr;
+use std::simd::prelude::*;
 
 /// The octet that ends a line.
 const LINE_FEED: u8 = b'\n';
 
 /// The octet between fields.
 const SPACE: u8 = b' ';
+
+// Returns the place of the first line feed, if it is one of the first 32 octets.
+#[inline(always)]
+fn near_line_end(bytes: &[u8]) -> Option<usize>
+    ensures { IfSome result (λ end. IsFirstByte (is_byte 10) bytes.now (Some end)) }
+{
+    if bytes.len() < 32 {
+        return None;
+    }
+    let ends = u8x32::from_slice(bytes)
+        .simd_eq(u8x32::splat(LINE_FEED))
+        .to_bitmask();
+    let end = ends.trailing_zeros();
+    if end >= 32 {
+        return None;
+    }
+    Some(end as usize)
+}
 
 /// Returns the first line without its line feed, and the octets after it.
 pub(crate) fn first_line(bytes: &[u8]) -> (&[u8], &[u8])
@@ -20,6 +40,10 @@ pub(crate) fn first_line(bytes: &[u8]) -> (&[u8], &[u8])
     // Most lines of a trace of messages are `sync`.
     if let [b's', b'y', b'n', b'c', LINE_FEED, others @ ..] = bytes {
         return (&bytes[..4], others);
+    }
+    // Most other lines of such a trace are short.
+    if let Some(end) = near_line_end(bytes) {
+        return (&bytes[..end], &bytes[end + 1..]);
     }
     match memchr(LINE_FEED, bytes) {
         Some(end) => (&bytes[..end], &bytes[end + 1..]),
