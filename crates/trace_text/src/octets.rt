@@ -46,8 +46,8 @@ fn wide(digits: &[u8]) -> [u8; 32]
 
 // Returns the values of 16 digits. The value for an octet that is not a digit is at least 16.
 //
-// The values of `0` to `9` come from a sum that wraps at `:`, and those of letters from a sum that stops at 255. The
-// other one of the two is at least 16.
+// One sum is the value of `0` to `9`, and wraps at `:`. The other sum is the value of a letter, and stops at 255. Each is
+// at least 16 for all other octets, so the lesser sum is the value.
 #[inline(always)]
 fn digit_values(digits: u8x16) -> u8x16
     ensures { map digit_value digits ≡ map below_sixteen result }
@@ -60,7 +60,7 @@ fn digit_values(digits: u8x16) -> u8x16
     numerals.simd_min(letters)
 }
 
-// Returns whether all values are those of digits.
+// Returns whether all values are below 16, as the value of a digit is.
 #[inline(always)]
 fn are_values(first: u8x16, second: u8x16) -> bool
     ensures { result ≡ list_all (λ v. not (nat_le 16 v)) (first ++ second) }
