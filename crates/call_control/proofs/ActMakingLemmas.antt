@@ -1,6 +1,6 @@
 -- What a row of calls makes of a world in the making, from what each of them does.
 use Rattle.std.proofs.Common.{◌≡◌, ℕ, ◌++◌, Bool, true, false, List, [], ◌∷◌, Option, Some, refl, sym, ◌∙◌, ap, subst}
-use Rattle.std.specs.Prelude.{not, slice_index_or, if◌then◌else◌}
+use Rattle.std.specs.Prelude.{slice_index_or, if◌then◌else◌}
 use Rattle.circuit_model.specs.declared.channel.Slot.{Slot}
 use Rattle.circuit_model.specs.declared.circuit.Kind.{Kind}
 use Rattle.circuit_model.specs.Holding.{Connect, Clear as Clear_slot}
@@ -114,11 +114,6 @@ answered_makes d map connected put same legs once twice thrice sends one_sent tw
       sent = two_is ∙ ap (λ (list : List Signal). list ++ told c kind.Connect ∷ []) (one_is ∙ ap (λ (list : List Signal). list ++ told h kind.ConnectAcknowledge ∷ []) (made.sent ∙ one.sent ∙ called.sent ∙ both.sent));
       moves = moved_is ∙ one.moves ∙ called.moves ∙ both.moves;
     })
-
--- the user was asked
-pub enquired_by : (enquired : Bool) → not enquired ≡ false → enquired ≡ true
-enquired_by true is = refl
-enquired_by false is = absurd cc
 
 -- the course that is chosen
 pub when_true : (b : Bool) → b ≡ true → (this that : Course) (P : Course → Type 0) → P this → P (if b then this else that)

@@ -11,9 +11,8 @@ use Rattle.q931_codec.specs.Reading.{reading}
 use Rattle.call_profile.specs.Calls.{Request, request_of, request_read}
 use Rattle.call_profile.specs.Legs.{Legs}
 use Rattle.call_control.specs.declared.preparsing.DialledNumber.{DialledNumber}
-use Rattle.call_control.specs.declared.preparsing.Incoming.{Incoming}
 use Rattle.call_control.specs.declared.preparsing.PreparsedMessage.{PreparsedMessage}
-use Rattle.call_control.specs.Ahead.{IsDialled, IsIncoming, IsReadAhead, is_message, message_ahead}
+use Rattle.call_control.specs.Ahead.{HasDialled, IsDialled, IsReadAhead, IsReceived, is_message, message_ahead}
 
 pub request_of_taken : (legs now : Legs) (line : ℕ) (octets : List ℕ) (r : Result Message Discard) (P : Request → Type 0) → legs ≡ now → r ≡ reading octets
     → P (request_read legs line r) → P (request_of now line octets)
@@ -23,28 +22,33 @@ request_of_taken legs now line octets r P same read p =
 -- ---- a message that is read
 
 -- what was read, if octets are a message
-pub IsIncoming_read : (plan : List Number) (octets : List ℕ) (o : Option Incoming) (incoming : Incoming) → o ≡ Some incoming
-    → MatchOption o (is_message octets ≡ false) (IsIncoming plan octets) → IsIncoming plan octets incoming
-IsIncoming_read plan octets o incoming is known = subst (λ (p : Option Incoming). MatchOption p (is_message octets ≡ false) (IsIncoming plan octets)) is known
+pub message_received : (octets : List ℕ) (o : Option Message) (m : Message) → o ≡ Some m
+    → MatchOption o (is_message octets ≡ false) (IsReceived octets) → IsReceived octets m
+message_received octets o m is known = subst (λ (p : Option Message). MatchOption p (is_message octets ≡ false) (IsReceived octets)) is known
 
 refused : (r : Result Message Discard) → is_ok r ≡ false → (why : Discard) × (r ≡ Err why)
 refused (Ok m) e = absurd cc
 refused (Err why) e = (why, refl)
 
-pub not_read : (plan : List Number) (octets : List ℕ) (o : Option Incoming) → o ≡ None
-    → MatchOption o (is_message octets ≡ false) (IsIncoming plan octets) → (why : Discard) × (reading octets ≡ Err why)
-not_read plan octets o is known =
-    refused (reading octets) (subst (λ (p : Option Incoming). MatchOption p (is_message octets ≡ false) (IsIncoming plan octets)) is known)
-
-pub dialled_there : (plan : List Number) (m : Message) (o : Option DialledNumber) (number : DialledNumber) → o ≡ Some number
-    → IfSome o (IsDialled plan m) → IsDialled plan m number
-dialled_there plan m o number is dials = subst (λ (p : Option DialledNumber). IfSome p (IsDialled plan m)) is dials
+pub not_read : (octets : List ℕ) (o : Option Message) → o ≡ None
+    → MatchOption o (is_message octets ≡ false) (IsReceived octets) → (why : Discard) × (reading octets ≡ Err why)
+not_read octets o is known =
+    refused (reading octets) (subst (λ (p : Option Message). MatchOption p (is_message octets ≡ false) (IsReceived octets)) is known)
 
 -- ---- a message that is read ahead
 
 pub read_before : (plan : List Number) (octets : List ℕ) (ahead : Option PreparsedMessage) (known : PreparsedMessage) → ahead ≡ Some known
     → IfSome ahead (IsReadAhead plan octets) → IsReadAhead plan octets known
 read_before plan octets ahead known is reads = subst (λ (o : Option PreparsedMessage). IfSome o (IsReadAhead plan octets)) is reads
+
+same_message : (r : Result Message Discard) (m n : Message) → r ≡ Ok m → r ≡ Ok n → m ≡ n
+same_message r m n is same = cc
+
+pub dialled_ahead : (plan : List Number) (octets : List ℕ) (ahead : Option PreparsedMessage) (m : Message) → reading octets ≡ Ok m
+    → IfSome ahead (IsReadAhead plan octets) → IfSome ahead (HasDialled plan m)
+dialled_ahead plan octets None m read known = known
+dialled_ahead plan octets (Some known) m read is =
+    subst (λ (n : Message). IfSome known.number (IsDialled plan n)) (same_message (reading octets) (message_ahead known octets) m is.read read) is.dials
 
 -- its elements are read from the octets behind its header
 elements_behind : (octets : List ℕ) (m : Message) → IsMessage octets m → m.elements ≡ elements_of (drop 5 octets)

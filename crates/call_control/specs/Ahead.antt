@@ -6,10 +6,8 @@ use Rattle.number_plan.specs.Plan.{found_for}
 use Rattle.q931_elements.specs.Reading.{elements_of}
 use Rattle.q931_codec.specs.declared.message.Message.{Message}
 use Rattle.q931_codec.specs.Reading.{reading}
-use Rattle.call_profile.specs.Calls.{asks_for_call}
 use Rattle.call_profile.specs.Setup.{digits_in}
 use Rattle.call_control.specs.declared.preparsing.DialledNumber.{DialledNumber}
-use Rattle.call_control.specs.declared.preparsing.Incoming.{Incoming}
 use Rattle.call_control.specs.declared.preparsing.PreparsedMessage.{PreparsedMessage}
 
 -- whether the dialled digits can be read, and the entry of the plan for them
@@ -32,9 +30,11 @@ pub record IsReadAhead (plan : List Number) (octets : List ℕ) (known : Prepars
   pub read : reading octets ≡ Ok (message_ahead known octets)
   pub dials : IfSome known.number (IsDialled plan (message_ahead known octets))
 
--- the octets are the parsed message, and it has a number, the dialled one, if and only if it requests a call
-pub record IsIncoming (plan : List Number) (octets : List ℕ) (incoming : Incoming) : Type 0 where
-  pub bounded : incoming.message.reference < 2 ^ 15
-  pub read : reading octets ≡ Ok incoming.message
-  pub dials : IfSome incoming.number (IsDialled plan incoming.message)
-  pub asks : is_some incoming.number ≡ asks_for_call incoming.message
+-- the octets are this message
+pub record IsReceived (octets : List ℕ) (m : Message) : Type 0 where
+  pub bounded : m.reference < 2 ^ 15
+  pub read : reading octets ≡ Ok m
+
+-- if a number was looked up ahead, the message dials that number
+abbrev pub HasDialled : List Number → Message → PreparsedMessage → Type 0
+HasDialled plan m known = IfSome known.number (IsDialled plan m)

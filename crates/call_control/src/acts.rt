@@ -41,26 +41,26 @@ impl<P: PathMap> CallControl<P> {
         out: &mut Outbox,
         plan: &Plan,
         tones: &Tones,
-        held: HeldLeg,
+        held: &HeldLeg,
         message: &Message,
     )
         requires work { (s : Setting) × (w : World) × (s.plan ≡ plan.now) × (s.tones ≡ tones.now) × IsAtWork s self.old.map self.old.legs w }
-        requires external { IsExternal self.old.map.external held.slot }
-        requires held { leg_at self.old.legs held.slot ≡ Some held.leg }
+        requires external { IsExternal self.old.map.external held.now.slot }
+        requires held { leg_at self.old.legs held.now.slot ≡ Some held.now.leg }
         requires fresh { (out.old.sends ≡ []) × (out.old.moved ≡ None) }
         ensures makes { EachAtWork plan.now tones.now self.old.map self.old.legs (λ s w.
-            HasMade s self.new.map self.new.legs out.new (making_by s w (course_on s w held message.now))) }
+            HasMade s self.new.map self.new.legs out.new (making_by s w (course_on s w held.now message.now))) }
         ensures records { (s : Setting) (w : World) → IsAtWork s self.old.map self.old.legs w
-            → out.new.records ≡ (outcome_by s w (course_on s w held message.now)).recorded }
+            → out.new.records ≡ (outcome_by s w (course_on s w held.now message.now)).recorded }
         ensures few { IfSome out.new.moved (λ moves. (moves.0 ≤ self.old.map.bound) × (moves.1 ≤ self.old.map.bound)) }
         ensures sizes { SameSizes self.old.map self.new.map }
     {
         let act = on_message(&held.leg, message);
         let peer = self.peer_of(held.leg.peer);
-        let call = self.record_of_act(held, peer, act);
+        let call = self.record_of_act(held, &peer, act);
         match act {
             Act::Digits => self.on_digits(out, plan, tones, held, message),
-            _ => self.perform(out, tones, held, peer, act, message),
+            _ => self.perform(out, tones, held, &peer, act, message),
         }
         record_only(&mut out.records, call);
     }
@@ -83,24 +83,24 @@ impl<P: PathMap> CallControl<P> {
         &mut self,
         out: &mut Outbox,
         tones: &Tones,
-        held: HeldLeg,
-        peer: Option<HeldLeg>,
+        held: &HeldLeg,
+        peer: &Option<HeldLeg>,
         act: Act,
         message: &Message,
     )
         requires work { (d : Dimensions) × (w : World) × Holds d self.old.map self.old.legs w }
         requires other { act ≢ asked.Digits }
-        requires there { IsThere self.old.map.external held }
+        requires there { IsThere self.old.map.external held.now }
         requires count { length self.old.legs.held ≡ 30 * self.old.map.external }
-        requires peer { peer ≡ peer_of self.old.legs held.leg.peer }
-        requires peer_there { PeerIsThere self.old.map.external held peer }
+        requires peer { peer.now ≡ peer_of self.old.legs held.now.leg.peer }
+        requires peer_there { PeerIsThere self.old.map.external held.now peer.now }
         requires cause { IfSome (cause_of_act act) (λ cause. cause < 128) }
-        requires silent { act ≡ asked.Answer → hears_at self.old.map held.slot ≡ None }
-        requires waiting { act ≡ asked.Alerting → IsSilent self.old.map peer }
-        requires talking { (reported : ℕ) → act ≡ asked.Report reported → held.leg.state ≡ active }
+        requires silent { act ≡ asked.Answer → hears_at self.old.map held.now.slot ≡ None }
+        requires waiting { act ≡ asked.Alerting → IsSilent self.old.map peer.now }
+        requires talking { (reported : ℕ) → act ≡ asked.Report reported → held.now.leg.state ≡ active }
         requires fresh { (out.old.sends ≡ []) × (out.old.moved ≡ None) }
         ensures makes { (s : Setting) (w : World) → s.tones ≡ tones.now → w.legs ≡ self.old.legs
-            → Performs (course_of s w held message.now act).operations self.old.map self.old.legs out.old self.new.map self.new.legs out.new }
+            → Performs (course_of s w held.now message.now act).operations self.old.map self.old.legs out.old self.new.map self.new.legs out.new }
         ensures few { IfSome out.new.moved (λ moves. (moves.0 ≤ self.old.map.bound) × (moves.1 ≤ self.old.map.bound)) }
         ensures sizes { SameSizes self.old.map self.new.map }
     {
@@ -135,13 +135,19 @@ impl<P: PathMap> CallControl<P> {
 
     // ALERTING: the called user is being alerted. The caller is sent ALERTING, with ringing tone if the trace gives
     // that tone. The caller's slot has no circuit yet, so nothing is released first.
-    fn on_alerting(&mut self, out: &mut Outbox, tones: &Tones, held: HeldLeg, peer: Option<HeldLeg>)
-        requires there { IsThere self.old.map.external held }
+    fn on_alerting(
+        &mut self,
+        out: &mut Outbox,
+        tones: &Tones,
+        held: &HeldLeg,
+        peer: &Option<HeldLeg>,
+    )
+        requires there { IsThere self.old.map.external held.now }
         requires count { length self.old.legs.held ≡ 30 * self.old.map.external }
-        requires peer_there { PeerIsThere self.old.map.external held peer }
-        requires waiting { IsSilent self.old.map peer }
+        requires peer_there { PeerIsThere self.old.map.external held.now peer.now }
+        requires waiting { IsSilent self.old.map peer.now }
         requires room { length out.old.sends < max_sends }
-        ensures makes { Performs (with_peer peer (on_alerting tones.now held)) self.old.map self.old.legs out.old self.new.map self.new.legs out.new }
+        ensures makes { Performs (with_peer peer.now (on_alerting tones.now held.now)) self.old.map self.old.legs out.old self.new.map self.new.legs out.new }
         ensures moved { out.new.moved ≡ out.old.moved }
         ensures sizes { SameSizes self.old.map self.new.map }
     {
@@ -158,15 +164,15 @@ impl<P: PathMap> CallControl<P> {
     }
 
     // CONNECT: the called user has answered. The two slots are connected.
-    fn on_connect(&mut self, out: &mut Outbox, held: HeldLeg, peer: Option<HeldLeg>)
+    fn on_connect(&mut self, out: &mut Outbox, held: &HeldLeg, peer: &Option<HeldLeg>)
         requires work { (d : Dimensions) × (w : World) × Holds d self.old.map self.old.legs w }
-        requires there { IsThere self.old.map.external held }
+        requires there { IsThere self.old.map.external held.now }
         requires count { length self.old.legs.held ≡ 30 * self.old.map.external }
-        requires peer_there { PeerIsThere self.old.map.external held peer }
-        requires silent { hears_at self.old.map held.slot ≡ None }
+        requires peer_there { PeerIsThere self.old.map.external held.now peer.now }
+        requires silent { hears_at self.old.map held.now.slot ≡ None }
         requires room { length out.old.sends + 1 < max_sends }
         requires fresh { out.old.moved ≡ None }
-        ensures makes { Performs (with_peer peer (on_connect self.old.legs held)) self.old.map self.old.legs out.old self.new.map self.new.legs out.new }
+        ensures makes { Performs (with_peer peer.now (on_connect self.old.legs held.now)) self.old.map self.old.legs out.old self.new.map self.new.legs out.new }
         ensures few { IfSome out.new.moved (λ moves. (moves.0 ≤ self.old.map.bound) × (moves.1 ≤ self.old.map.bound)) }
         ensures sizes { SameSizes self.old.map self.new.map }
     {
@@ -199,11 +205,11 @@ impl<P: PathMap> CallControl<P> {
     }
 
     // DISCONNECT: the user of the leg clears the call.
-    fn on_disconnect(&mut self, out: &mut Outbox, held: HeldLeg)
-        requires there { IsThere self.old.map.external held }
+    fn on_disconnect(&mut self, out: &mut Outbox, held: &HeldLeg)
+        requires there { IsThere self.old.map.external held.now }
         requires count { length self.old.legs.held ≡ 30 * self.old.map.external }
         requires room { length out.old.sends < max_sends }
-        ensures makes { Performs (on_disconnect held) self.old.map self.old.legs out.old self.new.map self.new.legs out.new }
+        ensures makes { Performs (on_disconnect held.now) self.old.map self.old.legs out.old self.new.map self.new.legs out.new }
         ensures count { length self.new.legs.held ≡ length self.old.legs.held }
         ensures sends { length out.new.sends ≡ length out.old.sends + 1 }
         ensures moved { out.new.moved ≡ out.old.moved }
@@ -215,11 +221,11 @@ impl<P: PathMap> CallControl<P> {
     }
 
     // RELEASE: the user of the leg has released its channel, and the exchange releases the call reference.
-    fn on_release(&mut self, out: &mut Outbox, held: HeldLeg)
-        requires there { IsThere self.old.map.external held }
+    fn on_release(&mut self, out: &mut Outbox, held: &HeldLeg)
+        requires there { IsThere self.old.map.external held.now }
         requires count { length self.old.legs.held ≡ 30 * self.old.map.external }
         requires room { length out.old.sends < max_sends }
-        ensures makes { Performs (on_release held) self.old.map self.old.legs out.old self.new.map self.new.legs out.new }
+        ensures makes { Performs (on_release held.now) self.old.map self.old.legs out.old self.new.map self.new.legs out.new }
         ensures count { length self.new.legs.held ≡ length self.old.legs.held }
         ensures sends { length out.new.sends ≡ length out.old.sends + 1 }
         ensures moved { out.new.moved ≡ out.old.moved }
@@ -235,18 +241,18 @@ impl<P: PathMap> CallControl<P> {
         &mut self,
         out: &mut Outbox,
         tones: &Tones,
-        held: HeldLeg,
-        peer: Option<HeldLeg>,
+        held: &HeldLeg,
+        peer: &Option<HeldLeg>,
         reported: u8,
     )
-        requires there { IsThere self.old.map.external held }
+        requires there { IsThere self.old.map.external held.now }
         requires count { length self.old.legs.held ≡ 30 * self.old.map.external }
-        requires state { held.leg.state ≡ active }
-        requires peer { peer ≡ peer_of self.old.legs held.leg.peer }
-        requires peer_there { PeerIsThere self.old.map.external held peer }
+        requires state { held.now.leg.state ≡ active }
+        requires peer { peer.now ≡ peer_of self.old.legs held.now.leg.peer }
+        requires peer_there { PeerIsThere self.old.map.external held.now peer.now }
         requires room { length out.old.sends + 1 < max_sends }
         ensures makes { (s : Setting) (w : World) → s.tones ≡ tones.now → w.legs ≡ self.old.legs
-            → Performs (course_of_status s w held reported).operations self.old.map self.old.legs out.old self.new.map self.new.legs out.new }
+            → Performs (course_of_status s w held.now reported).operations self.old.map self.old.legs out.old self.new.map self.new.legs out.new }
         ensures moved { out.new.moved ≡ out.old.moved }
         ensures sizes { SameSizes self.old.map self.new.map }
     {
@@ -263,10 +269,10 @@ impl<P: PathMap> CallControl<P> {
 
     /// RELEASE COMPLETE, a restart or an outage: removes the leg, and every circuit at its slot. Stores the condition of
     /// its channel.
-    pub(crate) fn remove_leg(&mut self, held: HeldLeg, condition: Condition)
-        requires external { IsExternal self.old.map.external held.slot }
+    pub(crate) fn remove_leg(&mut self, held: &HeldLeg, condition: Condition)
+        requires external { IsExternal self.old.map.external held.now.slot }
         requires count { length self.old.legs.held ≡ 30 * self.old.map.external }
-        ensures makes { PerformsQuietly (remove_leg condition held) self.old.map self.old.legs self.new.map self.new.legs }
+        ensures makes { PerformsQuietly (remove_leg condition held.now) self.old.map self.old.legs self.new.map self.new.legs }
         ensures count { length self.new.legs.held ≡ length self.old.legs.held }
         ensures sizes { SameSizes self.old.map self.new.map }
     {
@@ -279,14 +285,14 @@ impl<P: PathMap> CallControl<P> {
         &mut self,
         out: &mut Outbox,
         tones: &Tones,
-        peer: Option<HeldLeg>,
+        peer: &Option<HeldLeg>,
         cause: u8,
     )
-        requires there { IfSome peer (λ other. IsThere self.old.map.external other) }
+        requires there { IfSome peer.now (λ other. IsThere self.old.map.external other) }
         requires count { length self.old.legs.held ≡ 30 * self.old.map.external }
         requires room { length out.old.sends < max_sends }
         requires cause { cause < 128 }
-        ensures makes { Performs (with_peer peer (clear_with tones.now cause)) self.old.map self.old.legs out.old self.new.map self.new.legs out.new }
+        ensures makes { Performs (with_peer peer.now (clear_with tones.now cause)) self.old.map self.old.legs out.old self.new.map self.new.legs out.new }
         ensures few { length out.new.sends ≤ length out.old.sends + 1 }
         ensures moved { out.new.moved ≡ out.old.moved }
         ensures records { out.new.records ≡ out.old.records }
@@ -298,12 +304,12 @@ impl<P: PathMap> CallControl<P> {
     }
 
     /// Clears a leg with a cause. Its user receives the tone of that cause if the trace gives it.
-    pub(crate) fn clear_leg(&mut self, out: &mut Outbox, tones: &Tones, held: HeldLeg, cause: u8)
-        requires there { IsThere self.old.map.external held }
+    pub(crate) fn clear_leg(&mut self, out: &mut Outbox, tones: &Tones, held: &HeldLeg, cause: u8)
+        requires there { IsThere self.old.map.external held.now }
         requires count { length self.old.legs.held ≡ 30 * self.old.map.external }
         requires room { length out.old.sends < max_sends }
         requires cause { cause < 128 }
-        ensures makes { Performs (clear_with tones.now cause held) self.old.map self.old.legs out.old self.new.map self.new.legs out.new }
+        ensures makes { Performs (clear_with tones.now cause held.now) self.old.map self.old.legs out.old self.new.map self.new.legs out.new }
         ensures count { length self.new.legs.held ≡ length self.old.legs.held }
         ensures few { length out.new.sends ≤ length out.old.sends + 1 }
         ensures moved { out.new.moved ≡ out.old.moved }

@@ -40,16 +40,16 @@ impl<P: PathMap> CallControl<P> {
         out: &mut Outbox,
         plan: &Plan,
         tones: &Tones,
-        held: HeldLeg,
+        held: &HeldLeg,
         message: &Message,
     )
         requires work { (s : Setting) × (w : World) × (s.plan ≡ plan.now) × (s.tones ≡ tones.now) × IsAtWork s self.old.map self.old.legs w }
-        requires external { IsExternal self.old.map.external held.slot }
-        requires held { leg_at self.old.legs held.slot ≡ Some held.leg }
-        requires waits { held.leg.state ≡ overlap_sending }
+        requires external { IsExternal self.old.map.external held.now.slot }
+        requires held { leg_at self.old.legs held.now.slot ≡ Some held.now.leg }
+        requires waits { held.now.leg.state ≡ overlap_sending }
         requires fresh { (out.old.sends ≡ []) × (out.old.moved ≡ None) }
         ensures makes { EachAtWork plan.now tones.now self.old.map self.old.legs (λ s w.
-            HasMade s self.new.map self.new.legs out.new (making_after_all s.dimensions (making_at w) (on_digits s w held message.now))) }
+            HasMade s self.new.map self.new.legs out.new (making_after_all s.dimensions (making_at w) (on_digits s w held.now message.now))) }
         ensures few { IfSome out.new.moved (λ moves. (moves.0 ≤ self.old.map.bound) × (moves.1 ≤ self.old.map.bound)) }
         ensures sizes { SameSizes self.old.map self.new.map }
     {
@@ -61,7 +61,7 @@ impl<P: PathMap> CallControl<P> {
             return;
         };
         let dialled = look_up(plan, number.called.as_slice());
-        match self.called_by_digits(held.slot, message, dialled) {
+        match self.called_by_digits(held.slot, message, &dialled) {
             Err(cause) => self.clear_leg(out, tones, held, cause),
             Ok(called) => {
                 let caller = Caller {
@@ -81,24 +81,24 @@ impl<P: PathMap> CallControl<P> {
         &self,
         x: Slot,
         message: &Message,
-        dialled: DialledNumber,
+        dialled: &DialledNumber,
     ) -> Result<CalledSide, u8>
-        requires reached { IsReached self.now.map.external dialled.target }
+        requires reached { IsReached self.now.map.external dialled.now.target }
         ensures refused { (d : Dimensions) (w : World) → Holds d self.now.map self.now.legs w
-            → IfErr result (λ cause. first_cause (dialled_checks d w x message.now dialled.is_readable dialled.target) ≡ Some cause) }
+            → IfErr result (λ cause. first_cause (dialled_checks d w x message.now dialled.now.is_readable dialled.now.target) ≡ Some cause) }
         ensures passed { (d : Dimensions) (w : World) → Holds d self.now.map self.now.legs w
-            → OnOk result (first_cause (dialled_checks d w x message.now dialled.is_readable dialled.target) ≡ None) }
+            → OnOk result (first_cause (dialled_checks d w x message.now dialled.now.is_readable dialled.now.target) ≡ None) }
         ensures called { (d : Dimensions) (w : World) → Holds d self.now.map self.now.legs w
-            → IfOk result (λ called. called_side d w x dialled.target ≡ Ok called) }
+            → IfOk result (λ called. called_side d w x dialled.now.target ≡ Ok called) }
         ensures within { IfOk result (IsWithin self.now.map.external) }
     {
         if !dialled.is_readable {
             return Err(INVALID_NUMBER_FORMAT);
         }
-        if let Some(cause) = number_cause(dialled.target, message) {
+        if let Some(cause) = number_cause(&dialled.target, message) {
             return Err(cause);
         }
-        self.called_side(x, dialled.target)
+        self.called_side(x, &dialled.target)
     }
 }
 

@@ -21,14 +21,14 @@ impl<P: PathMap> CallControl<P> {
     /// act, because the act releases the circuit that shows the first frame of the conversation.
     pub(crate) fn record_of_act(
         &self,
-        held: HeldLeg,
-        peer: Option<HeldLeg>,
+        held: &HeldLeg,
+        peer: &Option<HeldLeg>,
         act: Act,
     ) -> Option<CallRecord>
-        requires external { IsExternal self.now.map.external held.slot }
-        requires peer_external { IfSome peer (λ other. IsExternal self.now.map.external other.slot) }
-        requires peer { peer ≡ peer_of self.now.legs held.leg.peer }
-        ensures { (d : Dimensions) (w : World) → Holds d self.now.map self.now.legs w → result ≡ record_of_act w held act }
+        requires external { IsExternal self.now.map.external held.now.slot }
+        requires peer_external { IfSome peer.now (λ other. IsExternal self.now.map.external other.slot) }
+        requires peer { peer.now ≡ peer_of self.now.legs held.now.leg.peer }
+        ensures { (d : Dimensions) (w : World) → Holds d self.now.map self.now.legs w → result ≡ record_of_act w held.now act }
     {
         self.record_ended(held, peer, cause_of_act_at(&held.leg, act)?)
     }
@@ -36,25 +36,28 @@ impl<P: PathMap> CallControl<P> {
     /// Returns the record of a leg's call, if its clearing has not begun.
     pub(crate) fn record_ended(
         &self,
-        held: HeldLeg,
-        peer: Option<HeldLeg>,
+        held: &HeldLeg,
+        peer: &Option<HeldLeg>,
         cause: u8,
     ) -> Option<CallRecord>
-        requires external { IsExternal self.now.map.external held.slot }
-        requires peer_external { IfSome peer (λ other. IsExternal self.now.map.external other.slot) }
-        requires peer { peer ≡ peer_of self.now.legs held.leg.peer }
-        ensures { (d : Dimensions) (w : World) → Holds d self.now.map self.now.legs w → result ≡ record_ended w held cause }
+        requires external { IsExternal self.now.map.external held.now.slot }
+        requires peer_external { IfSome peer.now (λ other. IsExternal self.now.map.external other.slot) }
+        requires peer { peer.now ≡ peer_of self.now.legs held.now.leg.peer }
+        ensures { (d : Dimensions) (w : World) → Holds d self.now.map self.now.legs w → result ≡ record_ended w held.now cause }
     {
         match held.leg.side {
             Side::Caller => self.record_calling(held, cause),
-            Side::Called => self.record_calling(peer?, cause),
+            Side::Called => match peer {
+                Some(caller) => self.record_calling(caller, cause),
+                None => None,
+            },
         }
     }
 
     // Returns the record of a call from its caller's leg, if its clearing has not begun.
-    fn record_calling(&self, caller: HeldLeg, cause: u8) -> Option<CallRecord>
-        requires external { IsExternal self.now.map.external caller.slot }
-        ensures { (d : Dimensions) (w : World) → Holds d self.now.map self.now.legs w → result ≡ record_calling w cause caller }
+    fn record_calling(&self, caller: &HeldLeg, cause: u8) -> Option<CallRecord>
+        requires external { IsExternal self.now.map.external caller.now.slot }
+        ensures { (d : Dimensions) (w : World) → Holds d self.now.map self.now.legs w → result ≡ record_calling w cause caller.now }
     {
         if !is_calling(&caller.leg) {
             return None;
@@ -71,9 +74,9 @@ impl<P: PathMap> CallControl<P> {
     }
 
     // Returns the first frame of the conversation, or the next frame if there was none.
-    fn conversation_begin(&self, caller: HeldLeg) -> u32
-        requires external { IsExternal self.now.map.external caller.slot }
-        ensures { (d : Dimensions) (w : World) → Holds d self.now.map self.now.legs w → result ≡ conversation_begin w caller }
+    fn conversation_begin(&self, caller: &HeldLeg) -> u32
+        requires external { IsExternal self.now.map.external caller.now.slot }
+        ensures { (d : Dimensions) (w : World) → Holds d self.now.map self.now.legs w → result ≡ conversation_begin w caller.now }
     {
         if caller.leg.state != ACTIVE {
             return self.map.next_frame();

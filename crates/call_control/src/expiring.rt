@@ -86,7 +86,7 @@ impl<P: PathMap> CallControl<P> {
         };
         let held = HeldLeg { slot: x, leg };
         let peer = self.peer_of(leg.peer);
-        self.on_expiry(out, tones, held, peer, expiry);
+        self.on_expiry(out, tones, &held, &peer, expiry);
     }
 
     // Performs the operations of a leg's expired timer, and records the call that it ends.
@@ -94,20 +94,20 @@ impl<P: PathMap> CallControl<P> {
         &mut self,
         out: &mut Outbox,
         tones: &Tones,
-        held: HeldLeg,
-        peer: Option<HeldLeg>,
+        held: &HeldLeg,
+        peer: &Option<HeldLeg>,
         expiry: Expiry,
     )
-        requires there { IsThere self.old.map.external held }
+        requires there { IsThere self.old.map.external held.now }
         requires count { length self.old.legs.held ≡ 30 * self.old.map.external }
-        requires peer { peer ≡ peer_of self.old.legs held.leg.peer }
-        requires peer_there { PeerIsThere self.old.map.external held peer }
-        requires state { held.leg.state ≡ timed_state expiry }
-        requires cause { held.leg.cause < 128 }
+        requires peer { peer.now ≡ peer_of self.old.legs held.now.leg.peer }
+        requires peer_there { PeerIsThere self.old.map.external held.now peer.now }
+        requires state { held.now.leg.state ≡ timed_state expiry }
+        requires cause { held.now.leg.cause < 128 }
         requires room { (length out.old.sends + 1 < max_sends) × (length out.old.records < max_records) }
-        ensures makes { Performs (on_expiry tones.now self.old.legs held expiry) self.old.map self.old.legs out.old self.new.map self.new.legs out.new }
+        ensures makes { Performs (on_expiry tones.now self.old.legs held.now expiry) self.old.map self.old.legs out.old self.new.map self.new.legs out.new }
         ensures records { (d : Dimensions) (w : World) → Holds d self.old.map self.old.legs w
-            → out.new.records ≡ out.old.records ++ cons_option (record_of_expiry w held expiry) [] }
+            → out.new.records ≡ out.old.records ++ cons_option (record_of_expiry w held.now expiry) [] }
         ensures few { (length out.new.sends ≤ length out.old.sends + 2) × (length out.new.records ≤ length out.old.records + 1) }
         ensures moved { out.new.moved ≡ out.old.moved }
         ensures sizes { SameSizes self.old.map self.new.map }
@@ -125,12 +125,12 @@ impl<P: PathMap> CallControl<P> {
     }
 
     /// Retransmits the stored message to the user of a leg.
-    pub(crate) fn send_again(&mut self, out: &mut Outbox, held: HeldLeg)
-        requires there { IsThere self.old.map.external held }
+    pub(crate) fn send_again(&mut self, out: &mut Outbox, held: &HeldLeg)
+        requires there { IsThere self.old.map.external held.now }
         requires count { length self.old.legs.held ≡ 30 * self.old.map.external }
-        requires state { is_among awaiting_answer held.leg.state ≡ true }
+        requires state { is_among awaiting_answer held.now.leg.state ≡ true }
         requires room { length out.old.sends < max_sends }
-        ensures makes { Performs (send_again held (kept_at self.old.legs held.slot)) self.old.map self.old.legs out.old self.new.map self.new.legs out.new }
+        ensures makes { Performs (send_again held.now (kept_at self.old.legs held.now.slot)) self.old.map self.old.legs out.old self.new.map self.new.legs out.new }
         ensures few { length out.new.sends ≤ length out.old.sends + 1 }
         ensures moved { out.new.moved ≡ out.old.moved }
         ensures records { out.new.records ≡ out.old.records }
@@ -148,15 +148,21 @@ impl<P: PathMap> CallControl<P> {
     }
 
     // The called user did not answer the SETUP: removes its leg, and clears the caller.
-    fn setup_over(&mut self, out: &mut Outbox, tones: &Tones, held: HeldLeg, peer: Option<HeldLeg>)
-        requires there { IsThere self.old.map.external held }
+    fn setup_over(
+        &mut self,
+        out: &mut Outbox,
+        tones: &Tones,
+        held: &HeldLeg,
+        peer: &Option<HeldLeg>,
+    )
+        requires there { IsThere self.old.map.external held.now }
         requires count { length self.old.legs.held ≡ 30 * self.old.map.external }
-        requires peer { peer ≡ peer_of self.old.legs held.leg.peer }
-        requires peer_there { PeerIsThere self.old.map.external held peer }
+        requires peer { peer.now ≡ peer_of self.old.legs held.now.leg.peer }
+        requires peer_there { PeerIsThere self.old.map.external held.now peer.now }
         requires room { (length out.old.sends + 1 < max_sends) × (length out.old.records < max_records) }
-        ensures makes { Performs (setup_over tones.now self.old.legs held) self.old.map self.old.legs out.old self.new.map self.new.legs out.new }
+        ensures makes { Performs (setup_over tones.now self.old.legs held.now) self.old.map self.old.legs out.old self.new.map self.new.legs out.new }
         ensures records { (d : Dimensions) (w : World) → Holds d self.old.map self.old.legs w
-            → out.new.records ≡ out.old.records ++ cons_option (record_ended w held no_user_responding) [] }
+            → out.new.records ≡ out.old.records ++ cons_option (record_ended w held.now no_user_responding) [] }
         ensures few { (length out.new.sends ≤ length out.old.sends + 2) × (length out.new.records ≤ length out.old.records + 1) }
         ensures moved { out.new.moved ≡ out.old.moved }
         ensures sizes { SameSizes self.old.map self.new.map }
@@ -168,15 +174,21 @@ impl<P: PathMap> CallControl<P> {
     }
 
     // The data link of the leg's line did not come up again: removes the leg, and clears the other leg of its call.
-    fn outage_over(&mut self, out: &mut Outbox, tones: &Tones, held: HeldLeg, peer: Option<HeldLeg>)
-        requires there { IsThere self.old.map.external held }
+    fn outage_over(
+        &mut self,
+        out: &mut Outbox,
+        tones: &Tones,
+        held: &HeldLeg,
+        peer: &Option<HeldLeg>,
+    )
+        requires there { IsThere self.old.map.external held.now }
         requires count { length self.old.legs.held ≡ 30 * self.old.map.external }
-        requires peer { peer ≡ peer_of self.old.legs held.leg.peer }
-        requires peer_there { PeerIsThere self.old.map.external held peer }
+        requires peer { peer.now ≡ peer_of self.old.legs held.now.leg.peer }
+        requires peer_there { PeerIsThere self.old.map.external held.now peer.now }
         requires room { (length out.old.sends + 1 < max_sends) × (length out.old.records < max_records) }
-        ensures makes { Performs (outage_over tones.now self.old.legs held) self.old.map self.old.legs out.old self.new.map self.new.legs out.new }
+        ensures makes { Performs (outage_over tones.now self.old.legs held.now) self.old.map self.old.legs out.old self.new.map self.new.legs out.new }
         ensures records { (d : Dimensions) (w : World) → Holds d self.old.map self.old.legs w
-            → out.new.records ≡ out.old.records ++ cons_option (record_ended w held destination_out_of_order) [] }
+            → out.new.records ≡ out.old.records ++ cons_option (record_ended w held.now destination_out_of_order) [] }
         ensures few { (length out.new.sends ≤ length out.old.sends + 2) × (length out.new.records ≤ length out.old.records + 1) }
         ensures moved { out.new.moved ≡ out.old.moved }
         ensures sizes { SameSizes self.old.map self.new.map }
@@ -189,10 +201,10 @@ impl<P: PathMap> CallControl<P> {
 
     // The user did not reply to RELEASE, which was sent twice: removes the leg. The establishment of the data link
     // sends RESTART, which its user is owed if the link is down.
-    fn release_over(&mut self, held: HeldLeg)
-        requires external { IsExternal self.old.map.external held.slot }
+    fn release_over(&mut self, held: &HeldLeg)
+        requires external { IsExternal self.old.map.external held.now.slot }
         requires count { length self.old.legs.held ≡ 30 * self.old.map.external }
-        ensures makes { PerformsQuietly (release_over self.old.legs held) self.old.map self.old.legs self.new.map self.new.legs }
+        ensures makes { PerformsQuietly (release_over self.old.legs held.now) self.old.map self.old.legs self.new.map self.new.legs }
         ensures sizes { SameSizes self.old.map self.new.map }
     {
         let condition = Condition::unanswered(self.legs.is_down(held.slot.line));
@@ -204,19 +216,19 @@ impl<P: PathMap> CallControl<P> {
         &mut self,
         out: &mut Outbox,
         tones: &Tones,
-        held: HeldLeg,
-        peer: Option<HeldLeg>,
+        held: &HeldLeg,
+        peer: &Option<HeldLeg>,
         cause: u8,
     )
-        requires there { IsThere self.old.map.external held }
+        requires there { IsThere self.old.map.external held.now }
         requires count { length self.old.legs.held ≡ 30 * self.old.map.external }
-        requires peer { peer ≡ peer_of self.old.legs held.leg.peer }
-        requires peer_there { PeerIsThere self.old.map.external held peer }
+        requires peer { peer.now ≡ peer_of self.old.legs held.now.leg.peer }
+        requires peer_there { PeerIsThere self.old.map.external held.now peer.now }
         requires cause { cause < 128 }
         requires room { (length out.old.sends + 1 < max_sends) × (length out.old.records < max_records) }
-        ensures makes { Performs (clear_both tones.now self.old.legs held cause) self.old.map self.old.legs out.old self.new.map self.new.legs out.new }
+        ensures makes { Performs (clear_both tones.now self.old.legs held.now cause) self.old.map self.old.legs out.old self.new.map self.new.legs out.new }
         ensures records { (d : Dimensions) (w : World) → Holds d self.old.map self.old.legs w
-            → out.new.records ≡ out.old.records ++ cons_option (record_ended w held cause) [] }
+            → out.new.records ≡ out.old.records ++ cons_option (record_ended w held.now cause) [] }
         ensures few { (length out.new.sends ≤ length out.old.sends + 2) × (length out.new.records ≤ length out.old.records + 1) }
         ensures moved { out.new.moved ≡ out.old.moved }
         ensures sizes { SameSizes self.old.map self.new.map }
@@ -228,11 +240,11 @@ impl<P: PathMap> CallControl<P> {
     }
 
     // Removes the leg, and sends RELEASE COMPLETE to its user.
-    fn give_up(&mut self, out: &mut Outbox, held: HeldLeg)
-        requires there { IsThere self.old.map.external held }
+    fn give_up(&mut self, out: &mut Outbox, held: &HeldLeg)
+        requires there { IsThere self.old.map.external held.now }
         requires count { length self.old.legs.held ≡ 30 * self.old.map.external }
         requires room { length out.old.sends < max_sends }
-        ensures makes { Performs (give_up held) self.old.map self.old.legs out.old self.new.map self.new.legs out.new }
+        ensures makes { Performs (give_up held.now) self.old.map self.old.legs out.old self.new.map self.new.legs out.new }
         ensures count { length self.new.legs.held ≡ length self.old.legs.held }
         ensures sends { length out.new.sends ≡ length out.old.sends + 1 }
         ensures moved { out.new.moved ≡ out.old.moved }
@@ -249,12 +261,12 @@ impl<P: PathMap> CallControl<P> {
     }
 
     // The user did not release the call: sends RELEASE with the cause of the clearing.
-    fn ask_for_release(&mut self, out: &mut Outbox, held: HeldLeg)
-        requires there { IsThere self.old.map.external held }
+    fn ask_for_release(&mut self, out: &mut Outbox, held: &HeldLeg)
+        requires there { IsThere self.old.map.external held.now }
         requires count { length self.old.legs.held ≡ 30 * self.old.map.external }
-        requires cause { held.leg.cause < 128 }
+        requires cause { held.now.leg.cause < 128 }
         requires room { length out.old.sends < max_sends }
-        ensures makes { Performs (ask_for_release held) self.old.map self.old.legs out.old self.new.map self.new.legs out.new }
+        ensures makes { Performs (ask_for_release held.now) self.old.map self.old.legs out.old self.new.map self.new.legs out.new }
         ensures few { length out.new.sends ≤ length out.old.sends + 1 }
         ensures moved { out.new.moved ≡ out.old.moved }
         ensures records { out.new.records ≡ out.old.records }

@@ -74,6 +74,6 @@ impl<P: PathMap> CallControl<P> {
             condition,
         };
         let held = HeldLeg { slot: x, leg };
-        self.restart_leg(out, tones, records, held, removal);
+        self.restart_leg(out, tones, records, &held, removal);
     }
 }

@@ -94,7 +94,7 @@ impl<P: PathMap> CallControl<P> {
         };
         let held = HeldLeg { slot: x, leg };
         match leg.state {
-            ACTIVE => self.start_waiting(held),
+            ACTIVE => self.start_waiting(&held),
             DISCONNECT_INDICATION | RELEASE_REQUEST => {}
             _ => {
                 let removal = Removal {
@@ -102,17 +102,17 @@ impl<P: PathMap> CallControl<P> {
                     cause: DESTINATION_OUT_OF_ORDER,
                     condition: Condition::Owed,
                 };
-                self.restart_leg(out, tones, records, held, removal);
+                self.restart_leg(out, tones, records, &held, removal);
             }
         }
     }
 
     // Starts T309 for a leg in state 10, unless it runs. Its user gets STATUS ENQUIRY when the link is up.
-    fn start_waiting(&mut self, held: HeldLeg)
-        requires there { IsThere self.old.map.external held }
+    fn start_waiting(&mut self, held: &HeldLeg)
+        requires there { IsThere self.old.map.external held.now }
         requires count { length self.old.legs.held ≡ 30 * self.old.map.external }
-        requires state { held.leg.state ≡ active }
-        ensures makes { PerformsQuietly (start_waiting held) self.old.map self.old.legs self.new.map self.new.legs }
+        requires state { held.now.leg.state ≡ active }
+        ensures makes { PerformsQuietly (start_waiting held.now) self.old.map self.old.legs self.new.map self.new.legs }
         ensures map { self.new.map ≡ self.old.map }
     {
         if held.leg.resent {
@@ -142,9 +142,9 @@ impl<P: PathMap> CallControl<P> {
         };
         let held = HeldLeg { slot: x, leg };
         match leg.state {
-            ACTIVE => self.enquire(out, held),
-            OVERLAP_SENDING => self.clear_leg(out, tones, held, TEMPORARY_FAILURE),
-            RELEASE_REQUEST => self.send_again(out, held),
+            ACTIVE => self.enquire(out, &held),
+            OVERLAP_SENDING => self.clear_leg(out, tones, &held, TEMPORARY_FAILURE),
+            RELEASE_REQUEST => self.send_again(out, &held),
             _ => {}
         }
     }
@@ -168,12 +168,12 @@ impl<P: PathMap> CallControl<P> {
     }
 
     // Stops T309 for a leg in state 10, and sends STATUS ENQUIRY to its user.
-    fn enquire(&mut self, out: &mut Outbox, held: HeldLeg)
-        requires there { IsThere self.old.map.external held }
+    fn enquire(&mut self, out: &mut Outbox, held: &HeldLeg)
+        requires there { IsThere self.old.map.external held.now }
         requires count { length self.old.legs.held ≡ 30 * self.old.map.external }
-        requires state { held.leg.state ≡ active }
+        requires state { held.now.leg.state ≡ active }
         requires room { length out.old.sends < max_sends }
-        ensures makes { Performs (enquire held) self.old.map self.old.legs out.old self.new.map self.new.legs out.new }
+        ensures makes { Performs (enquire held.now) self.old.map self.old.legs out.old self.new.map self.new.legs out.new }
         ensures few { length out.new.sends ≤ length out.old.sends + 1 }
         ensures moved { out.new.moved ≡ out.old.moved }
         ensures records { out.new.records ≡ out.old.records }

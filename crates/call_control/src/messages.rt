@@ -1,16 +1,16 @@
 //! A received message, from its octets to its operations.
-ghost use Rattle.std.specs.Prelude.{◌≡◌, ◌<◌, ◌≤◌, ◌^◌, [], None, Ok, IfSome, is_some};
+ghost use Rattle.std.specs.Prelude.{◌≡◌, ◌<◌, ◌≤◌, ◌^◌, [], None, Ok, IfSome};
 ghost use Rattle.circuit_map.specs.Connections.{SameSizes};
-ghost use Rattle.call_control.specs.Ahead.{IsDialled, IsReadAhead};
+ghost use Rattle.call_control.specs.Ahead.{HasDialled, IsReadAhead};
 ghost use Rattle.call_control.specs.AtWork.{IsAtWork, EachAtWork, EachWithTones};
-ghost use Rattle.call_profile.specs.Calls.{asks_for_call, with_leg_named, request_read, outcome_of_octets, outcome_for, request_on_global};
+ghost use Rattle.call_profile.specs.Calls.{with_leg_named, request_read, outcome_of_octets, outcome_for, request_on_global};
 ghost use Rattle.call_profile.specs.Legs.{leg_named};
 ghost use Rattle.exchange_events.specs.Sizes.{Setting};
 ghost use Rattle.call_profile.specs.World.{World};
 ghost use Rattle.call_control.specs.Standing.{HasMade};
 
 use crate::operations::CallControl;
-use crate::preparsing::{Incoming, Received, read_received};
+use crate::preparsing::{PreparsedMessage, Received, asks_for_call, number_of, read_received};
 use crate::sending::answer_on_no_call;
 use clearing_rules::{GLOBAL_CALL_REFERENCE, acknowledged_restart, restart};
 use control_memory::PathMap;
@@ -41,8 +41,8 @@ impl<P: PathMap> CallControl<P> {
         ensures few { IfSome out.new.moved (λ moves. (moves.0 ≤ self.old.map.bound) × (moves.1 ≤ self.old.map.bound)) }
         ensures sizes { SameSizes self.old.map self.new.map }
     {
-        match read_received(plan, received) {
-            Some(incoming) => self.receive(out, plan, tones, line, &incoming),
+        match &read_received(received) {
+            Some(message) => self.receive(out, plan, tones, line, message, &received.ahead),
             None => out.records.clear(),
         }
     }
@@ -55,51 +55,57 @@ impl<P: PathMap> CallControl<P> {
         plan: &Plan,
         tones: &Tones,
         line: u8,
-        incoming: &Incoming,
+        message: &Message,
+        ahead: &Option<PreparsedMessage>,
     )
         requires work { (s : Setting) × (w : World) × (s.plan ≡ plan.now) × (s.tones ≡ tones.now) × IsAtWork s self.old.map self.old.legs w }
         requires line { line < self.old.map.external }
-        requires reference { incoming.now.message.reference < 2 ^ 15 }
-        requires dials { IfSome incoming.now.number (IsDialled plan.now incoming.now.message) }
-        requires asks { is_some incoming.now.number ≡ asks_for_call incoming.now.message }
+        requires reference { message.now.reference < 2 ^ 15 }
+        requires ahead { IfSome ahead.now (HasDialled plan.now message.now) }
         requires fresh { (out.old.sends ≡ []) × (out.old.moved ≡ None) }
         ensures makes { EachAtWork plan.now tones.now self.old.map self.old.legs (λ s w.
-            HasMade s self.new.map self.new.legs out.new (outcome_for s w line (request_read self.old.legs line (Ok incoming.now.message))).making) }
+            HasMade s self.new.map self.new.legs out.new (outcome_for s w line (request_read self.old.legs line (Ok message.now))).making) }
         ensures records { EachAtWork plan.now tones.now self.old.map self.old.legs (λ s w.
-            out.new.records ≡ (outcome_for s w line (request_read self.old.legs line (Ok incoming.now.message))).recorded) }
+            out.new.records ≡ (outcome_for s w line (request_read self.old.legs line (Ok message.now))).recorded) }
         ensures few { IfSome out.new.moved (λ moves. (moves.0 ≤ self.old.map.bound) × (moves.1 ≤ self.old.map.bound)) }
         ensures sizes { SameSizes self.old.map self.new.map }
     {
-        let message = &incoming.message;
-        match self.legs.find(line, message.flag, message.reference) {
+        match &self.legs.find(line, message.flag, message.reference) {
             Some(held) => self.act(out, plan, tones, held, message),
-            None => self.answer_without_leg(out, tones, line, incoming),
+            None => self.answer_without_leg(out, plan, tones, line, message, ahead),
         }
     }
 
     // Processes a message without a leg, and records the calls that it ends: a RESTART on the global call reference, a
     // SETUP from the side that chose the call reference, or a message to which there is a fixed reply.
-    fn answer_without_leg(&mut self, out: &mut Outbox, tones: &Tones, line: u8, incoming: &Incoming)
-        requires work { (s : Setting) × (w : World) × (s.tones ≡ tones.now) × IfSome incoming.now.number (IsDialled s.plan incoming.now.message)
-            × IsAtWork s self.old.map self.old.legs w }
+    #[inline(never)]
+    fn answer_without_leg(
+        &mut self,
+        out: &mut Outbox,
+        plan: &Plan,
+        tones: &Tones,
+        line: u8,
+        message: &Message,
+        ahead: &Option<PreparsedMessage>,
+    )
+        requires work { (s : Setting) × (w : World) × (s.plan ≡ plan.now) × (s.tones ≡ tones.now) × IsAtWork s self.old.map self.old.legs w }
         requires line { line < self.old.map.external }
-        requires reference { incoming.now.message.reference < 2 ^ 15 }
-        requires asks { is_some incoming.now.number ≡ asks_for_call incoming.now.message }
-        requires nameless { leg_named self.old.legs line incoming.now.message.flag incoming.now.message.reference ≡ None }
+        requires reference { message.now.reference < 2 ^ 15 }
+        requires ahead { IfSome ahead.now (HasDialled plan.now message.now) }
+        requires nameless { leg_named self.old.legs line message.now.flag message.now.reference ≡ None }
         requires fresh { (out.old.sends ≡ []) × (out.old.moved ≡ None) }
-        ensures makes { EachWithTones tones.now self.old.map self.old.legs (λ s w. IfSome incoming.now.number (IsDialled s.plan incoming.now.message)
-            → HasMade s self.new.map self.new.legs out.new (outcome_for s w line (with_leg_named incoming.now.message None)).making) }
-        ensures records { EachWithTones tones.now self.old.map self.old.legs (λ s w.
-            out.new.records ≡ (outcome_for s w line (with_leg_named incoming.now.message None)).recorded) }
+        ensures makes { EachAtWork plan.now tones.now self.old.map self.old.legs (λ s w.
+            HasMade s self.new.map self.new.legs out.new (outcome_for s w line (with_leg_named message.now None)).making) }
+        ensures records { EachAtWork plan.now tones.now self.old.map self.old.legs (λ s w.
+            out.new.records ≡ (outcome_for s w line (with_leg_named message.now None)).recorded) }
         ensures few { IfSome out.new.moved (λ moves. (moves.0 ≤ self.old.map.bound) × (moves.1 ≤ self.old.map.bound)) }
         ensures sizes { SameSizes self.old.map self.new.map }
     {
-        let message = &incoming.message;
         if message.reference == GLOBAL_CALL_REFERENCE {
             return self.answer_on_global_reference(out, tones, line, message);
         }
-        if let Some(number) = incoming.number {
-            self.setup(out, line, message, number);
+        if asks_for_call(message) {
+            self.setup(out, line, message, &number_of(plan, message, ahead));
             out.records.clear();
             return;
         }
@@ -108,6 +114,7 @@ impl<P: PathMap> CallControl<P> {
     }
 
     // Processes a message on the global call reference. Only a RESTART and a RESTART ACKNOWLEDGE have an effect.
+    #[inline(never)]
     fn answer_on_global_reference(
         &mut self,
         out: &mut Outbox,

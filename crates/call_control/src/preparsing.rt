@@ -1,9 +1,10 @@
 //! Parses messages. The result depends only on the octets and the number plan, before the turn or in it.
-ghost use Rattle.std.specs.Prelude.{◌≡◌, ◌≤◌, false, IfSome, MatchOption, is_some, length};
+ghost use Rattle.std.specs.Prelude.{◌≡◌, ◌≤◌, false, List, IfSome, MatchOption, is_some, length};
 ghost use Rattle.q931_codec.specs.Contents.{dialled_digits};
 ghost use Rattle.call_profile.specs.Calls.{asks_for_call};
 ghost use Rattle.call_profile.specs.Setup.{target_dialled};
-ghost use Rattle.call_control.specs.Ahead.{IsDialled, IsIncoming, IsReadAhead, is_message, message_ahead};
+ghost use Rattle.number_plan.specs.declared.plan.Number.{Number};
+ghost use Rattle.call_control.specs.Ahead.{HasDialled, IsDialled, IsReadAhead, IsReceived, is_message, message_ahead};
 
 use number_plan::{Found, Plan};
 use q931_codec::{Message, MessageKind, dialled_digits, read};
@@ -40,15 +41,6 @@ pub struct Received<'a> {
     pub ahead: Option<PreparsedMessage>,
 }
 
-/// A parsed message.
-#[derive(Drop)]
-pub(crate) struct Incoming<'a> {
-    /// The message.
-    pub message: Message<'a>,
-    /// The number that it dials, if it requests a call.
-    pub number: Option<DialledNumber>,
-}
-
 /// Parses a message ahead, and looks up its number if it can request a call. Returns `None` if the octets are not a
 /// message.
 pub fn preparse(plan: &Plan, octets: &[u8]) -> Option<PreparsedMessage>
@@ -58,7 +50,11 @@ pub fn preparse(plan: &Plan, octets: &[u8]) -> Option<PreparsedMessage>
     let Ok(message) = read(octets) else {
         return None;
     };
-    let number = number_of(plan, &message, None);
+    let number = if asks_for_call(&message) {
+        Some(look_up(plan, message.called_number()))
+    } else {
+        None
+    };
     Some(PreparsedMessage {
         flag: message.flag,
         reference: message.reference,
@@ -70,28 +66,24 @@ pub fn preparse(plan: &Plan, octets: &[u8]) -> Option<PreparsedMessage>
 /// Returns the received message, or `None` if its octets are not a message. Uses the result of parsing ahead if there
 /// is one.
 #[inline(always)]
-pub(crate) fn read_received<'a>(plan: &Plan, received: &Received<'a>) -> Option<Incoming<'a>>
-    requires ahead { IfSome received.now.ahead (IsReadAhead plan.now received.now.octets.now) }
-    ensures { MatchOption result (is_message received.now.octets.now ≡ false) (IsIncoming plan.now received.now.octets.now) }
+pub(crate) fn read_received<'a>(received: &Received<'a>) -> Option<Message<'a>>
+    requires ahead { (plan : List Number) × IfSome received.now.ahead (IsReadAhead plan received.now.octets.now) }
+    ensures { MatchOption result (is_message received.now.octets.now ≡ false) (IsReceived received.now.octets.now) }
 {
     let octets = received.octets;
-    if let Some(known) = received.ahead {
-        let ahead = known.number;
-        let message = message_of(known, octets);
-        let number = number_of(plan, &message, ahead);
-        return Some(Incoming { message, number });
+    if let Some(known) = &received.ahead {
+        return Some(message_of(known, octets));
     }
-    let Ok(message) = read(octets) else {
-        return None;
-    };
-    let number = number_of(plan, &message, None);
-    Some(Incoming { message, number })
+    match read(octets) {
+        Ok(message) => Some(message),
+        Err(_) => None,
+    }
 }
 
 // Returns the message that was parsed ahead.
-fn message_of(known: PreparsedMessage, octets: &[u8]) -> Message<'_>
+fn message_of<'a>(known: &PreparsedMessage, octets: &'a [u8]) -> Message<'a>
     requires { 5 ≤ length octets.now }
-    ensures { result ≡ message_ahead known octets.now }
+    ensures { result ≡ message_ahead known.now octets.now }
 {
     Message {
         flag: known.flag,
@@ -101,23 +93,28 @@ fn message_of(known: PreparsedMessage, octets: &[u8]) -> Message<'_>
     }
 }
 
-// Returns the number that a message dials, if it requests a call. It is looked up only if that was not done ahead.
-fn number_of(plan: &Plan, message: &Message, ahead: Option<DialledNumber>) -> Option<DialledNumber>
-    requires ahead { IfSome ahead (IsDialled plan.now message.now) }
-    ensures dials { IfSome result (IsDialled plan.now message.now) }
-    ensures asks { is_some result ≡ asks_for_call message.now }
+/// Returns the number that a SETUP dials. It is looked up only if that was not done ahead.
+pub(crate) fn number_of(
+    plan: &Plan,
+    message: &Message,
+    ahead: &Option<PreparsedMessage>,
+) -> DialledNumber
+    requires ahead { IfSome ahead.now (HasDialled plan.now message.now) }
+    ensures { IsDialled plan.now message.now result }
 {
-    if !asks_for_call(message) {
-        return None;
-    }
     match ahead {
-        Some(number) => Some(number),
-        None => Some(look_up(plan, message.called_number())),
+        Some(
+            PreparsedMessage {
+                number: Some(number),
+                ..
+            },
+        ) => *number,
+        _ => look_up(plan, message.called_number()),
     }
 }
 
-// Returns whether the message is a SETUP from the side that chose the call reference.
-fn asks_for_call(message: &Message) -> bool
+/// Returns whether the message is a SETUP from the side that chose the call reference.
+pub(crate) fn asks_for_call(message: &Message) -> bool
     ensures { result ≡ asks_for_call message.now }
 {
     message.kind == MessageKind::Setup && !message.flag

@@ -100,7 +100,7 @@ impl<P: PathMap> CallControl<P> {
             cause: TEMPORARY_FAILURE,
             condition: Condition::Idle,
         };
-        self.restart_leg(out, tones, records, held, removal);
+        self.restart_leg(out, tones, records, &held, removal);
     }
 
     /// Removes the leg of a restarted slot, and the other leg of its call if its slot is restarted too. Otherwise clears
@@ -110,27 +110,27 @@ impl<P: PathMap> CallControl<P> {
         out: &mut Outbox,
         tones: &Tones,
         records: &mut Records,
-        held: HeldLeg,
+        held: &HeldLeg,
         removal: Removal,
     )
         requires work { (d : Dimensions) × (w : World) × Holds d self.old.map self.old.legs w × LegsStand d.external tones.now w }
-        requires external { IsExternal self.old.map.external held.slot }
-        requires at { leg_at self.old.legs held.slot ≡ Some held.leg }
+        requires external { IsExternal self.old.map.external held.now.slot }
+        requires at { leg_at self.old.legs held.now.slot ≡ Some held.now.leg }
         requires cause { removal.cause < 128 }
         requires room { (length out.old.sends < max_sends) × (length records.old < max_records) }
-        ensures makes { Performs (restart_leg tones.now removal.cause removal.condition removal.asked self.old.legs (Some held))
+        ensures makes { Performs (restart_leg tones.now removal.cause removal.condition removal.asked self.old.legs (Some held.now))
             self.old.map self.old.legs out.old self.new.map self.new.legs out.new }
         ensures records { (d : Dimensions) (w : World) → Holds d self.old.map self.old.legs w
-            → records.new ≡ records.old ++ cons_option (record_ended w held removal.cause) [] }
+            → records.new ≡ records.old ++ cons_option (record_ended w held.now removal.cause) [] }
         ensures few { (length out.new.sends ≤ length out.old.sends + 1) × (length records.new ≤ length records.old + 1) }
         ensures moved { out.new.moved ≡ out.old.moved }
         ensures sizes { SameSizes self.old.map self.new.map }
     {
         let peer = self.peer_of(held.leg.peer);
-        let call = self.record_ended(held, peer, removal.cause);
+        let call = self.record_ended(held, &peer, removal.cause);
         record_also(records, call);
         self.remove_leg(held, removal.condition);
-        self.restart_peer(out, tones, held.slot.line, peer, removal);
+        self.restart_peer(out, tones, held.slot.line, &peer, removal);
     }
 
     // Removes the other leg of a call if its slot is restarted too. Otherwise clears it with the cause of the removal.
@@ -139,14 +139,14 @@ impl<P: PathMap> CallControl<P> {
         out: &mut Outbox,
         tones: &Tones,
         line: u8,
-        peer: Option<HeldLeg>,
+        peer: &Option<HeldLeg>,
         removal: Removal,
     )
-        requires there { IfSome peer (λ other. IsThere self.old.map.external other) }
+        requires there { IfSome peer.now (λ other. IsThere self.old.map.external other) }
         requires count { length self.old.legs.held ≡ 30 * self.old.map.external }
         requires cause { removal.cause < 128 }
         requires room { length out.old.sends < max_sends }
-        ensures makes { Performs (with_peer peer (restart_peer tones.now removal.cause removal.condition removal.asked line))
+        ensures makes { Performs (with_peer peer.now (restart_peer tones.now removal.cause removal.condition removal.asked line))
             self.old.map self.old.legs out.old self.new.map self.new.legs out.new }
         ensures few { length out.new.sends ≤ length out.old.sends + 1 }
         ensures moved { out.new.moved ≡ out.old.moved }
@@ -158,7 +158,7 @@ impl<P: PathMap> CallControl<P> {
         if restarts_slot(removal.asked, line, other.slot) {
             self.remove_leg(other, removal.condition);
         } else {
-            self.clear_peer(out, tones, peer, removal.cause);
+            self.clear_leg(out, tones, other, removal.cause);
         }
     }
 }

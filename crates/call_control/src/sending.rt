@@ -34,11 +34,11 @@ pub(crate) fn send(out: &mut Outbox, line: u8, message: &Outgoing)
 }
 
 /// Sends a message of a type, without elements, to the user of a leg.
-pub(crate) fn send_bare(out: &mut Outbox, held: HeldLeg, kind: MessageKind)
+pub(crate) fn send_bare(out: &mut Outbox, held: &HeldLeg, kind: MessageKind)
     requires room { length out.old.sends < max_sends }
-    requires told { FitsMessages held.leg }
+    requires told { FitsMessages held.now.leg }
     requires named { IsNamed kind }
-    ensures sends { out.new.sends ≡ out.old.sends ++ record { line = held.slot.line; octets = encoding (message_to held.leg kind) } ∷ [] }
+    ensures sends { out.new.sends ≡ out.old.sends ++ record { line = held.now.slot.line; octets = encoding (message_to held.now.leg kind) } ∷ [] }
     ensures moved { out.new.moved ≡ out.old.moved }
     ensures records { out.new.records ≡ out.old.records }
 {

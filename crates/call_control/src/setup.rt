@@ -27,14 +27,14 @@ impl<P: PathMap> CallControl<P> {
         out: &mut Outbox,
         line: u8,
         message: &Message,
-        number: DialledNumber,
+        number: &DialledNumber,
     )
-        requires work { (s : Setting) × (w : World) × IsDialled s.plan message.now number × IsAtWork s self.old.map self.old.legs w }
+        requires work { (s : Setting) × (w : World) × IsDialled s.plan message.now number.now × IsAtWork s self.old.map self.old.legs w }
         requires line { line < self.old.map.external }
         requires reference { (1 ≤ message.now.reference) × (message.now.reference < 2 ^ 15) }
         requires unused { leg_named self.old.legs line false message.now.reference ≡ None }
         requires fresh { (out.old.sends ≡ []) × (out.old.moved ≡ None) }
-        ensures makes { (s : Setting) (w : World) → IsDialled s.plan message.now number → IsAtWork s self.old.map self.old.legs w
+        ensures makes { (s : Setting) (w : World) → IsDialled s.plan message.now number.now → IsAtWork s self.old.map self.old.legs w
             → HasMade s self.new.map self.new.legs out.new (making_by s w (course_of_setup s w line message.now)) }
         ensures few { IfSome out.new.moved (λ moves. (moves.0 ≤ self.old.map.bound) × (moves.1 ≤ self.old.map.bound)) }
         ensures sizes { SameSizes self.old.map self.new.map }

@@ -172,19 +172,19 @@ impl<P: PathMap> CallControl<P> {
         &self,
         line: u8,
         channel: Option<ChannelIdentification>,
-        target: Found,
+        target: &Found,
     ) -> Result<Admitted, u8>
         requires external { line < self.now.map.external }
-        requires reached { IsReached self.now.map.external target }
-        requires known { is_unknown target ≡ false }
+        requires reached { IsReached self.now.map.external target.now }
+        requires known { is_unknown target.now ≡ false }
         ensures refused { (d : Dimensions) (w : World) → Holds d self.now.map self.now.legs w
-            → IfErr result (λ cause. first_cause (slot_checks d w line channel target) ≡ Some cause) }
+            → IfErr result (λ cause. first_cause (slot_checks d w line channel target.now) ≡ Some cause) }
         ensures passed { (d : Dimensions) (w : World) → Holds d self.now.map self.now.legs w
-            → OnOk result (first_cause (slot_checks d w line channel target) ≡ None) }
+            → OnOk result (first_cause (slot_checks d w line channel target.now) ≡ None) }
         ensures caller { (d : Dimensions) (w : World) → Holds d self.now.map self.now.legs w
             → IfOk result (λ a. caller_slot w line channel ≡ Some a.slot) }
         ensures called { (d : Dimensions) (w : World) → Holds d self.now.map self.now.legs w
-            → IfOk result (λ a. called_side d w a.slot target ≡ Ok a.called) }
+            → IfOk result (λ a. called_side d w a.slot target.now ≡ Ok a.called) }
         ensures within { IfOk result (λ a. IsExternal self.now.map.external a.slot × IsWithin self.now.map.external a.called) }
     {
         if self.is_taken(line, channel) {
@@ -201,15 +201,15 @@ impl<P: PathMap> CallControl<P> {
 
     /// Returns the called side for a caller at a slot, by the target of its number. Returns a cause if the data link of
     /// each called line is down, if no called line has another idle slot, or if no conference port is free.
-    pub(crate) fn called_side(&self, caller: Slot, target: Found) -> Result<CalledSide, u8>
-        requires reached { IsReached self.now.map.external target }
-        ensures side { (d : Dimensions) (w : World) → Holds d self.now.map self.now.legs w → result ≡ called_side d w caller target }
+    pub(crate) fn called_side(&self, caller: Slot, target: &Found) -> Result<CalledSide, u8>
+        requires reached { IsReached self.now.map.external target.now }
+        ensures side { (d : Dimensions) (w : World) → Holds d self.now.map self.now.legs w → result ≡ called_side d w caller target.now }
         ensures within { IfOk result (IsWithin self.now.map.external) }
     {
-        if self.is_cut_off(&target) {
+        if self.is_cut_off(target) {
             return Err(DESTINATION_OUT_OF_ORDER);
         }
-        match &target {
+        match target {
             Found::Line(line) => at_slot(self.lowest_called(caller, *line)),
             Found::Lines(lines) => at_slot(self.hunted(caller, lines.as_slice())),
             Found::Room(_) if self.map.is_full() => Err(SWITCHING_EQUIPMENT_CONGESTION),
@@ -225,28 +225,28 @@ impl<P: PathMap> CallControl<P> {
         &self,
         line: u8,
         message: &Message,
-        number: DialledNumber,
+        number: &DialledNumber,
     ) -> Result<Admitted, u8>
         requires external { line < self.now.map.external }
-        requires readable { number.is_readable ≡ is_some (digits_in message.now) }
-        requires reached { IsReached self.now.map.external number.target }
-        ensures refused { (s : Setting) (w : World) → target_of s message.now ≡ number.target → Holds s.dimensions self.now.map self.now.legs w
+        requires readable { number.now.is_readable ≡ is_some (digits_in message.now) }
+        requires reached { IsReached self.now.map.external number.now.target }
+        ensures refused { (s : Setting) (w : World) → target_of s message.now ≡ number.now.target → Holds s.dimensions self.now.map self.now.legs w
             → IfErr result (λ cause. refusal s w line message.now ≡ Some cause) }
-        ensures passed { (s : Setting) (w : World) → target_of s message.now ≡ number.target → Holds s.dimensions self.now.map self.now.legs w
+        ensures passed { (s : Setting) (w : World) → target_of s message.now ≡ number.now.target → Holds s.dimensions self.now.map self.now.legs w
             → OnOk result (refusal s w line message.now ≡ None) }
         ensures caller { (d : Dimensions) (w : World) → Holds d self.now.map self.now.legs w
             → IfOk result (λ a. caller_slot w line (channel_in message.now.elements) ≡ Some a.slot) }
         ensures called { (d : Dimensions) (w : World) → Holds d self.now.map self.now.legs w
-            → IfOk result (λ a. called_side d w a.slot number.target ≡ Ok a.called) }
+            → IfOk result (λ a. called_side d w a.slot number.now.target ≡ Ok a.called) }
         ensures within { IfOk result (λ a. IsExternal self.now.map.external a.slot × IsWithin self.now.map.external a.called) }
     {
         if let Some(cause) = element_cause(message, number.is_readable) {
             return Err(cause);
         }
-        if let Some(cause) = number_cause(number.target, message) {
+        if let Some(cause) = number_cause(&number.target, message) {
             return Err(cause);
         }
-        self.slots_for(line, message.channel(), number.target)
+        self.slots_for(line, message.channel(), &number.target)
     }
 }
 
@@ -317,8 +317,8 @@ fn lacks_number(message: &Message) -> bool
 }
 
 /// Returns the cause of the first check of its number that a message fails, for this target of the number.
-pub(crate) fn number_cause(target: Found, message: &Message) -> Option<u8>
-    ensures { result ≡ first_cause (number_checks target (complete_in message.now.elements)) }
+pub(crate) fn number_cause(target: &Found, message: &Message) -> Option<u8>
+    ensures { result ≡ first_cause (number_checks target.now (complete_in message.now.elements)) }
 {
     match target {
         Found::Nothing => Some(UNALLOCATED_NUMBER),

@@ -14,50 +14,50 @@ pub record_of_act-call-requires-clause-peer_external :
 record_of_act-call-requires-clause-peer_external g c =
     let work = c.requires.work in
     let now = c.args.self.now in
-    peer_external now.map.external c.args.held c.peer_of-peer.result
-    (known_peer work.0 now.map now.legs work.1 work.4 c.args.held c.requires.external c.requires.held c.peer_of-peer.result c.peer_of-peer.ensures)
+    peer_external now.map.external c.args.held.now c.peer_of-peer.result
+    (known_peer work.0 now.map now.legs work.1 work.4 c.args.held.now c.requires.external c.requires.held c.peer_of-peer.result c.peer_of-peer.ensures)
 
 pub perform-requires-clause-there : goal.perform-requires-clause-there
 perform-requires-clause-there g c =
     let work = c.requires.work in
     let now = c.args.self.now in
-    known_there work.0 now.map now.legs work.1 work.4 c.args.held c.requires.external c.requires.held
+    known_there work.0 now.map now.legs work.1 work.4 c.args.held.now c.requires.external c.requires.held
 
 pub perform-requires-clause-peer_there : goal.perform-requires-clause-peer_there
 perform-requires-clause-peer_there g c =
     let work = c.requires.work in
     let now = c.args.self.now in
-    known_peer work.0 now.map now.legs work.1 work.4 c.args.held c.requires.external c.requires.held c.peer_of-peer.result c.peer_of-peer.ensures
+    known_peer work.0 now.map now.legs work.1 work.4 c.args.held.now c.requires.external c.requires.held c.peer_of-peer.result c.peer_of-peer.ensures
 
 pub perform-requires-clause-cause : goal.perform-requires-clause-cause
 perform-requires-clause-cause g c =
     let m = c.args.message.now in
     subst (λ (a : Act). IfSome (cause_of_act a) (λ cause. cause < 128)) (sym c.on_message-act.ensures)
-    (act_fits c.args.held.leg.state m.kind (clearing_cause m.elements) (call_state_in m.elements) (cause_fits m.elements))
+    (act_fits c.args.held.now.leg.state m.kind (clearing_cause m.elements) (call_state_in m.elements) (cause_fits m.elements))
 
 pub perform-requires-clause-silent : goal.perform-requires-clause-silent
 perform-requires-clause-silent g c answers =
     let work = c.requires.work in
     let now = c.args.self.now in
-    hears_at_known_silent work.0 now.map now.legs work.1 work.4 c.args.held c.requires.external c.requires.held c.args.message.now (sym c.on_message-act.ensures ∙ answers)
+    hears_at_known_silent work.0 now.map now.legs work.1 work.4 c.args.held.now c.requires.external c.requires.held c.args.message.now (sym c.on_message-act.ensures ∙ answers)
 
 pub perform-requires-clause-waiting : goal.perform-requires-clause-waiting
 perform-requires-clause-waiting g c alerts =
     let work = c.requires.work in
     let now = c.args.self.now in
-    known_waiting work.0 now.map now.legs work.1 work.4 c.args.held c.requires.external c.requires.held c.args.message.now (sym c.on_message-act.ensures ∙ alerts)
+    known_waiting work.0 now.map now.legs work.1 work.4 c.args.held.now c.requires.external c.requires.held c.args.message.now (sym c.on_message-act.ensures ∙ alerts)
     c.peer_of-peer.result c.peer_of-peer.ensures
 
 pub perform-requires-clause-talking : goal.perform-requires-clause-talking
-perform-requires-clause-talking g c reported is = reporting_state c.args.held.leg.state reported c.args.message.now (sym c.on_message-act.ensures ∙ is)
+perform-requires-clause-talking g c reported is = reporting_state c.args.held.now.leg.state reported c.args.message.now (sym c.on_message-act.ensures ∙ is)
 
 pub returns-clause-records : goal.returns-clause-records
 returns-clause-records g c s w work =
     let now = c.args.self.now in
     c.record_only.ensures
     ∙ ap (λ told. cons_option told []) (c.record_of_act-call.ensures s.dimensions w work.holds)
-    ∙ ap (records_of_act w c.args.held) c.on_message-act.ensures
-    ∙ known_records s now.map now.legs w work c.args.held c.requires.external c.requires.held c.args.message.now
+    ∙ ap (records_of_act w c.args.held.now) c.on_message-act.ensures
+    ∙ known_records s now.map now.legs w work c.args.held.now c.requires.external c.requires.held c.args.message.now
 
 pub on_digits-requires-clause-waits : goal.on_digits-requires-clause-waits
-on_digits-requires-clause-waits g c = digits_state c.args.held.leg.state c.args.message.now (sym c.on_message-act.ensures ∙ c.in-Digits.is)
+on_digits-requires-clause-waits g c = digits_state c.args.held.now.leg.state c.args.message.now (sym c.on_message-act.ensures ∙ c.in-Digits.is)

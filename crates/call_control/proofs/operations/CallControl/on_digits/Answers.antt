@@ -20,7 +20,7 @@ use Rattle.call_control.proofs.operations.CallControl.on_digits.Goals as goal
 pub returns-in_default-dialled_on-clause-makes : goal.returns-in_default-dialled_on-clause-makes
 returns-in_default-dialled_on-clause-makes g c s w plan tones work =
     let now = c.args.self.now in
-    let h = c.args.held in
+    let h = c.args.held.now in
     let m = c.args.message.now in
     let p = c.in-Some.number.now in
     let wrong : adds_wrongly p.called m ≡ true = sym c.dialled_on.ensures.none ∙ ap is_none c.in_default-dialled_on.is in
@@ -44,20 +44,20 @@ accept-requires-clause-within g c = on_ok c.called_by_digits.result c.in-Ok.call
 pub clear_leg-requires-in-Err-clause-there : goal.clear_leg-requires-in-Err-clause-there
 clear_leg-requires-in-Err-clause-there g c =
     let work = c.requires.work in
-    known_there work.0 c.args.self.now.map c.args.self.now.legs work.1 work.4 c.args.held c.requires.external c.requires.held
+    known_there work.0 c.args.self.now.map c.args.self.now.legs work.1 work.4 c.args.held.now c.requires.external c.requires.held
 
 pub clear_leg-requires-in-Err-clause-cause : goal.clear_leg-requires-in-Err-clause-cause
 clear_leg-requires-in-Err-clause-cause g c =
     let work = c.requires.work in
     let dialled = c.look_up-dialled.result in
-    dialled_small work.0.dimensions work.1 c.args.held.slot c.args.message.now dialled.is_readable dialled.target c.in-Err.cause
-    (on_err c.called_by_digits.result c.in-Err.cause (λ cause. first_cause (dialled_checks work.0.dimensions work.1 c.args.held.slot c.args.message.now dialled.is_readable dialled.target) ≡ Some cause) c.in-Err.is
+    dialled_small work.0.dimensions work.1 c.args.held.now.slot c.args.message.now dialled.is_readable dialled.target c.in-Err.cause
+    (on_err c.called_by_digits.result c.in-Err.cause (λ cause. first_cause (dialled_checks work.0.dimensions work.1 c.args.held.now.slot c.args.message.now dialled.is_readable dialled.target) ≡ Some cause) c.in-Err.is
     (c.called_by_digits.ensures.refused work.0.dimensions work.1 work.4.holds))
 
 pub accept-requires-clause-reference : goal.accept-requires-clause-reference
 accept-requires-clause-reference g c =
     let work = c.requires.work in
-    (known_there work.0 c.args.self.now.map c.args.self.now.legs work.1 work.4 c.args.held c.requires.external c.requires.held).told.reference
+    (known_there work.0 c.args.self.now.map c.args.self.now.legs work.1 work.4 c.args.held.now c.requires.external c.requires.held).told.reference
 
 pub accept-requires-clause-seats : goal.accept-requires-clause-seats
 accept-requires-clause-seats g c room is_room =
@@ -65,7 +65,7 @@ accept-requires-clause-seats g c room is_room =
     let s = work.0 in
     let w = work.1 in
     let now = c.args.self.now in
-    let h = c.args.held in
+    let h = c.args.held.now in
     let m = c.args.message.now in
     let p = c.in-Some.number.now in
     let dialled = c.look_up-dialled.result in
@@ -83,7 +83,7 @@ accept-requires-clause-seats g c room is_room =
 pub returns-in-Err-clause-makes : goal.returns-in-Err-clause-makes
 returns-in-Err-clause-makes g c s w plan tones work =
     let now = c.args.self.now in
-    let h = c.args.held in
+    let h = c.args.held.now in
     let m = c.args.message.now in
     let p = c.in-Some.number.now in
     let dialled = c.look_up-dialled.result in
@@ -103,7 +103,7 @@ returns-in-Err-clause-makes g c s w plan tones work =
 pub returns-in-Ok-clause-makes : goal.returns-in-Ok-clause-makes
 returns-in-Ok-clause-makes g c s w plan tones work =
     let now = c.args.self.now in
-    let h = c.args.held in
+    let h = c.args.held.now in
     let m = c.args.message.now in
     let p = c.in-Some.number.now in
     let more = c.in-Some-dialled_on.number in

@@ -12,10 +12,10 @@ pub returns-clause-makes : goal.returns-clause-makes
 returns-clause-makes g c d m made =
     let start = c.args.self.now in
     let out = c.args.out.now in
-    let x = c.args.held.slot in
+    let x = c.args.held.now.slot in
     let cleared = makes_clear d start.map c.clear.new.self.map start.legs c.clear.new.self.legs out.sends out.sends out.moved out.moved m made x (c.clear.ensures.holds d) in
     let told = c.expect.ensures.makes d (making_after d m (Clear x)) cleared in
     let after = c.expect.new.self in
     let sent = c.expect.new.out in
-    subst (λ (l : Leg). Makes d after.map after.legs sent.sends sent.moved (making_after_all d m (Clear x ∷ Expect x l (message_to c.args.held.leg kind.Release) ∷ []))) c.in_release_request.ensures
+    subst (λ (l : Leg). Makes d after.map after.legs sent.sends sent.moved (making_after_all d m (Clear x ∷ Expect x l (message_to c.args.held.now.leg kind.Release) ∷ []))) c.in_release_request.ensures
     (subst (λ (k : OutgoingMessage). Makes d after.map after.legs sent.sends sent.moved (making_after_all d m (Clear x ∷ Expect x c.in_release_request.result k ∷ []))) c.message_to-release.ensures told)

@@ -11,14 +11,14 @@ record_ended-call-requires-clause-peer_external g c =
     let work = c.requires.work in
     let now = c.args.self.now in
     external_of now.map.external c.peer_of-peer.result
-    (peer_there work.0 c.args.tones.now now.map now.legs work.1 work.2 work.3 c.args.held c.requires.external c.requires.at c.peer_of-peer.result c.peer_of-peer.ensures)
+    (peer_there work.0 c.args.tones.now now.map now.legs work.1 work.2 work.3 c.args.held.now c.requires.external c.requires.at c.peer_of-peer.result c.peer_of-peer.ensures)
 
 pub restart_peer-requires-clause-there : goal.restart_peer-requires-clause-there
 restart_peer-requires-clause-there g c =
     let work = c.requires.work in
     let now = c.args.self.now in
     subst (λ n. IfSome c.peer_of-peer.result (λ other. IsThere n other)) (sym c.remove_leg.ensures.sizes.external)
-    (peer_there work.0 c.args.tones.now now.map now.legs work.1 work.2 work.3 c.args.held c.requires.external c.requires.at c.peer_of-peer.result c.peer_of-peer.ensures)
+    (peer_there work.0 c.args.tones.now now.map now.legs work.1 work.2 work.3 c.args.held.now c.requires.external c.requires.at c.peer_of-peer.result c.peer_of-peer.ensures)
 
 pub returns-clause-records : goal.returns-clause-records
 returns-clause-records g c d w holds =

@@ -18,7 +18,7 @@ use Rattle.call_control.proofs.operations.CallControl.setup.Goals as goal
 pub admit-requires-clause-reached : goal.admit-requires-clause-reached
 admit-requires-clause-reached g c =
     let work = c.requires.work in
-    number_reaches work.0 work.0.plan c.args.self.now.map (unwrap_or (digits_in c.args.message.now) []) c.args.number.target refl work.3.holds.sizes work.3.planned work.2.leads
+    number_reaches work.0 work.0.plan c.args.self.now.map (unwrap_or (digits_in c.args.message.now) []) c.args.number.now.target refl work.3.holds.sizes work.3.planned work.2.leads
 
 pub refuse-requires-clause-cause : goal.refuse-requires-clause-cause
 refuse-requires-clause-cause g c =
@@ -51,7 +51,7 @@ accept-requires-clause-seats g c room is_room =
     let w = work.1 in
     let m = c.args.message.now in
     let admitted = c.in-Ok.admitted in
-    let target = c.args.number.target in
+    let target = c.args.number.now.target in
     let holds = work.3.holds in
     let passes : refusal s w c.args.line m ≡ None = subst (λ (r : Result Admitted ℕ). OnOk r (refusal s w c.args.line m ≡ None)) c.in-Ok.is (c.admit.ensures.passed s w (sym work.2.leads) holds) in
     let is = on_ok c.admit.result admitted (λ (a : Admitted). caller_slot w c.args.line (channel_in m.elements) ≡ Some a.slot) c.in-Ok.is (c.admit.ensures.caller s.dimensions w holds) in
@@ -70,7 +70,7 @@ pub returns-in-Ok-clause-makes : goal.returns-in-Ok-clause-makes
 returns-in-Ok-clause-makes g c s w dialled work =
     let m = c.args.message.now in
     let admitted = c.in-Ok.admitted in
-    let target = c.args.number.target in
+    let target = c.args.number.now.target in
     let passes : refusal s w c.args.line m ≡ None = subst (λ (r : Result Admitted ℕ). OnOk r (refusal s w c.args.line m ≡ None)) c.in-Ok.is (c.admit.ensures.passed s w (sym dialled.leads) work.holds) in
     let is = on_ok c.admit.result admitted (λ (a : Admitted). caller_slot w c.args.line (channel_in m.elements) ≡ Some a.slot) c.in-Ok.is (c.admit.ensures.caller s.dimensions w work.holds) in
     let side = on_ok c.admit.result admitted (λ (a : Admitted). called_side s.dimensions w a.slot target ≡ Ok a.called) c.in-Ok.is (c.admit.ensures.called s.dimensions w work.holds) in
