@@ -1,9 +1,11 @@
 //! The operations of each act on the leg of a message and on its peer.
-ghost use Rattle.std.specs.Prelude.{ℕ, ◌≡◌, ◌≢◌, ◌<◌, ◌≤◌, ◌+◌, ◌*◌, [], ◌∷◌, None, Some, IfSome, length};
+ghost use Rattle.std.specs.Prelude.{ℕ, ◌≡◌, ◌≢◌, ◌<◌, ◌≤◌, ◌+◌, ◌*◌, ◌++◌, [], ◌∷◌, None, Some, IfSome, length};
 ghost use Rattle.circuit_model.specs.Extent.{IsExternal};
 ghost use Rattle.circuit_map.specs.Connections.{SameSizes, hears_at};
-ghost use Rattle.q931_codec.specs.Outgoing.{outgoing_of};
+ghost use Rattle.q931_codec.specs.Causes.{response_to_status_enquiry};
+ghost use Rattle.q931_codec.specs.Outgoing.{encoding, outgoing_of};
 ghost use Rattle.call_states.specs.Acts.{cause_of_act};
+ghost use Rattle.call_states.specs.Status.{FitsMessages, status, unexpected_cause};
 ghost use Rattle.call_states.specs.declared.act.Act.TheVariants as asked;
 ghost use Rattle.q931_codec.specs.CallStates.{active};
 ghost use Rattle.call_profile.specs.ActCourse.{course_of};
@@ -66,6 +68,7 @@ impl<P: PathMap> CallControl<P> {
     }
 
     /// Returns the other leg of a call, if there is one.
+    #[inline(never)]
     pub(crate) fn peer_of(&self, peer: Peer) -> Option<HeldLeg>
         ensures { result ≡ peer_of self.now.legs peer }
     {
@@ -106,14 +109,8 @@ impl<P: PathMap> CallControl<P> {
     {
         match act {
             Act::Nothing | Act::Digits => {}
-            Act::Unexpected => send(out, held.slot.line, &unexpected(&held.leg, message)),
-            Act::Enquiry => {
-                send(
-                    out,
-                    held.slot.line,
-                    &status_message(&held.leg, RESPONSE_TO_STATUS_ENQUIRY),
-                )
-            }
+            Act::Unexpected => report_unexpected(out, held, message),
+            Act::Enquiry => report_state(out, held),
             Act::Proceeding => self.put(held.slot, in_state(INCOMING_CALL_PROCEEDING, held.leg)),
             Act::Alerting => self.on_alerting(out, tones, held, peer),
             Act::Answer => self.on_connect(out, held, peer),
@@ -324,6 +321,34 @@ impl<P: PathMap> CallControl<P> {
         let disconnect = disconnect_message(&held.leg, cause);
         send(out, held.slot.line, &with_progress(tone, disconnect));
     }
+}
+
+// Sends the STATUS to the user of a leg that a message is unexpected. It is a function of its own because it is rare.
+#[inline(never)]
+fn report_unexpected(out: &mut Outbox, held: &HeldLeg, message: &Message)
+    requires room { length out.old.sends < max_sends }
+    requires told { FitsMessages held.now.leg }
+    ensures sends { out.new.sends ≡ out.old.sends ++ record { line = held.now.slot.line; octets = encoding (status held.now.leg (unexpected_cause message.now.kind)) } ∷ [] }
+    ensures moved { out.new.moved ≡ out.old.moved }
+    ensures records { out.new.records ≡ out.old.records }
+{
+    send(out, held.slot.line, &unexpected(&held.leg, message));
+}
+
+// Sends the STATUS that replies to STATUS ENQUIRY. It is a function of its own because it is rare.
+#[inline(never)]
+fn report_state(out: &mut Outbox, held: &HeldLeg)
+    requires room { length out.old.sends < max_sends }
+    requires told { FitsMessages held.now.leg }
+    ensures sends { out.new.sends ≡ out.old.sends ++ record { line = held.now.slot.line; octets = encoding (status held.now.leg response_to_status_enquiry) } ∷ [] }
+    ensures moved { out.new.moved ≡ out.old.moved }
+    ensures records { out.new.records ≡ out.old.records }
+{
+    send(
+        out,
+        held.slot.line,
+        &status_message(&held.leg, RESPONSE_TO_STATUS_ENQUIRY),
+    );
 }
 
 // Returns the leg in another state.

@@ -240,13 +240,14 @@ impl<P: PathMap> CallControl<P> {
             → IfOk result (λ a. called_side d w a.slot number.now.target ≡ Ok a.called) }
         ensures within { IfOk result (λ a. IsExternal self.now.map.external a.slot × IsWithin self.now.map.external a.called) }
     {
-        if let Some(cause) = element_cause(message, number.is_readable) {
+        let channel = message.channel();
+        if let Some(cause) = element_cause(message, channel, number.is_readable) {
             return Err(cause);
         }
         if let Some(cause) = number_cause(&number.target, message) {
             return Err(cause);
         }
-        self.slots_for(line, message.channel(), &number.target)
+        self.slots_for(line, channel, &number.target)
     }
 }
 
@@ -285,8 +286,13 @@ fn slot_of(line: u8, channel: u8) -> Option<Slot>
 
 // Returns the cause of the first check that the elements of a SETUP fail. `is_readable` states whether the dialled
 // number has only digits.
-fn element_cause(message: &Message, is_readable: bool) -> Option<u8>
-    requires { is_readable ≡ is_some (digits_in message.now) }
+fn element_cause(
+    message: &Message,
+    channel: Option<ChannelIdentification>,
+    is_readable: bool,
+) -> Option<u8>
+    requires channel { channel ≡ channel_in message.now.elements }
+    requires readable { is_readable ≡ is_some (digits_in message.now) }
     ensures { result ≡ first_cause (element_checks message.now) }
 {
     let Some(bearer) = message.bearer() else {
@@ -297,7 +303,7 @@ fn element_cause(message: &Message, is_readable: bool) -> Option<u8>
         BearerCapability::NotCarried => return Some(BEARER_CAPABILITY_NOT_IMPLEMENTED),
         BearerCapability::Carried => {}
     }
-    if message.channel() == Some(ChannelIdentification::Invalid) {
+    if channel == Some(ChannelIdentification::Invalid) {
         return Some(INVALID_ELEMENT_CONTENTS);
     }
     if lacks_number(message) || !is_readable {

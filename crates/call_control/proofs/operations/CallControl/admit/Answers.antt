@@ -23,7 +23,7 @@ returns-clause-refused g c s w leads holds =
     let chosen = c.slots_for.result in
     let same = refusal_slot_refused s w c.args.line c.args.message.now c.args.number.now.target leads _ (sym c.element_cause.ensures ∙ c.in_default.is) (sym c.number_cause.ensures ∙ c.in_default-number_cause.is) refl in
     subst (λ (o : Option ℕ). IfErr chosen (λ cause. o ≡ Some cause)) (sym same)
-    (subst (λ (channel : Option ChannelIdentification). IfErr chosen (λ cause. first_cause (slot_checks s.dimensions w c.args.line channel c.args.number.now.target) ≡ Some cause)) c.channel.ensures
+    (subst (λ (channel : Option ChannelIdentification). IfErr chosen (λ cause. first_cause (slot_checks s.dimensions w c.args.line channel c.args.number.now.target) ≡ Some cause)) c.channel-channel.ensures
     (c.slots_for.ensures.refused s.dimensions w holds))
 
 pub returns-clause-passed : goal.returns-clause-passed
@@ -31,9 +31,9 @@ returns-clause-passed g c s w leads holds =
     let chosen = c.slots_for.result in
     let same = refusal_slot_refused s w c.args.line c.args.message.now c.args.number.now.target leads _ (sym c.element_cause.ensures ∙ c.in_default.is) (sym c.number_cause.ensures ∙ c.in_default-number_cause.is) refl in
     subst (λ (o : Option ℕ). OnOk chosen (o ≡ None)) (sym same)
-    (subst (λ (channel : Option ChannelIdentification). OnOk chosen (first_cause (slot_checks s.dimensions w c.args.line channel c.args.number.now.target) ≡ None)) c.channel.ensures
+    (subst (λ (channel : Option ChannelIdentification). OnOk chosen (first_cause (slot_checks s.dimensions w c.args.line channel c.args.number.now.target) ≡ None)) c.channel-channel.ensures
     (c.slots_for.ensures.passed s.dimensions w holds))
 
 pub returns-clause-caller : goal.returns-clause-caller
 returns-clause-caller g c d w holds =
-    subst (λ (channel : Option ChannelIdentification). IfOk c.slots_for.result (λ a. caller_slot w c.args.line channel ≡ Some a.slot)) c.channel.ensures (c.slots_for.ensures.caller d w holds)
+    subst (λ (channel : Option ChannelIdentification). IfOk c.slots_for.result (λ a. caller_slot w c.args.line channel ≡ Some a.slot)) c.channel-channel.ensures (c.slots_for.ensures.caller d w holds)
