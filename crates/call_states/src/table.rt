@@ -13,12 +13,25 @@ use q931_codec::states::{
 use q931_codec::{Message, MessageKind};
 
 /// Returns the act of a message at a leg, by the call table. A message without a readable cause counts as one with
-/// cause 16, normal call clearing.
+/// cause 16, normal call clearing. Only the elements that the act depends on are searched for.
 pub fn on_message(leg: &Leg, message: &Message) -> Act
     ensures { result ≡ act_on leg.now.state message.now }
 {
-    let cause = message.cause().unwrap_or(NORMAL_CALL_CLEARING);
-    act_of(leg.state, message.kind, cause, message.call_state())
+    match message.kind {
+        MessageKind::Disconnect | MessageKind::Release | MessageKind::ReleaseComplete => {
+            let cause = message.cause().unwrap_or(NORMAL_CALL_CLEARING);
+            act_of(leg.state, message.kind, cause, None)
+        }
+        MessageKind::Status => {
+            act_of(
+                leg.state,
+                message.kind,
+                NORMAL_CALL_CLEARING,
+                message.call_state(),
+            )
+        }
+        _ => act_of(leg.state, message.kind, NORMAL_CALL_CLEARING, None),
+    }
 }
 
 // Returns the act of the call table. The reply to a message in a state in which it is not expected is STATUS.
