@@ -30,7 +30,7 @@ use q931_codec::causes::INVALID_NUMBER_FORMAT;
 use tone_rules::Tones;
 
 /// The maximum number of octets in a called party number.
-const MAX_CALLED: usize = 21;
+pub(crate) const MAX_CALLED: usize = 21;
 
 impl<P: PathMap> CallControl<P> {
     /// Adds further digits to the number of a caller in overlap sending. Its leg waits for more, or its call is

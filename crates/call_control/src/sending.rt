@@ -46,6 +46,7 @@ pub(crate) fn send_bare(out: &mut Outbox, held: &HeldLeg, kind: MessageKind)
 }
 
 /// Refuses a SETUP with a cause.
+#[inline(never)]
 pub(crate) fn refuse(out: &mut Outbox, line: u8, reference: u16, cause: u8)
     requires room { length out.old.sends ≤ 60 }
     requires reference { reference < 2 ^ 15 }
@@ -57,6 +58,7 @@ pub(crate) fn refuse(out: &mut Outbox, line: u8, reference: u16, cause: u8)
 }
 
 /// Sends the reply to a message on the call reference of no call, if there is one.
+#[inline(never)]
 pub(crate) fn answer_on_no_call(out: &mut Outbox, line: u8, message: &Message)
     requires room { length out.old.sends < max_sends }
     requires reference { message.now.reference < 2 ^ 15 }
