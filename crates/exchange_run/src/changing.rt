@@ -50,6 +50,7 @@ pub fn end_of(changes: &[u32], start: usize, place: u32) -> usize
 
 // Appends the summaries of the meters that some changes remove, and reserves memory for one more meter. Only this part
 // of the changes can fail.
+#[inline(never)]
 pub fn say_at(
     count: usize,
     meters: &mut Vec<Box<dyn Meter>>,
@@ -71,6 +72,7 @@ pub fn say_at(
 }
 
 // Makes some changes, for which there is capacity.
+#[inline(never)]
 pub fn move_at(count: usize, meters: &mut Vec<Box<dyn Meter>>, spare: &mut VecDeque<Box<dyn Meter>>)
     requires room { vec_len meters.old + 1 ≤ vec_capacity meters.old }
     ensures { AreMoved (λ m. stands m) (λ m. text m) count meters.old.items spare.old.items meters.new.items spare.new.items }

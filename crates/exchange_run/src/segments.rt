@@ -1,14 +1,16 @@
 //! The segments of a run, and the text of each.
-ghost use Rattle.std.specs.Prelude.{◌≡◌, ◌⊎◌, ◌*◌, ◌<◌, ◌≤◌, ◌++◌, [], length, IsSome, OnOk, OnErr};
+ghost use Rattle.std.specs.Prelude.{◌≡◌, ◌⊎◌, ◌*◌, ◌<◌, ◌≤◌, ◌++◌, [], List, length, map, IsSome, OnOk, OnErr};
 ghost use Rattle.std.specs.Io.KnownBytes.{Appends};
 ghost use Rattle.ex_io.specs.Ends.{Rose};
 ghost use Rattle.seat_history.specs.Seats.{first_seat};
 ghost use Rattle.exchange_core.specs.Boards.{turns_of};
 ghost use Rattle.exchange_events.specs.Sound.{IsSound};
 ghost use Rattle.exchange_core.specs.Working.{order_of};
-ghost use Rattle.segment_run.specs.Segment.{IsChief, Ran, RanWhole};
+ghost use Rattle.tone_rules.specs.Tables.{table_of};
+ghost use Rattle.call_processor.specs.declared.worked.Placed.{Placed};
+ghost use Rattle.segment_run.specs.Segment.{AddsAnswers, IsChief, MayRun, Ran, RanWhole};
 ghost use Rattle.segment_run.specs.Segments.{IsDoneBelow};
-ghost use Rattle.report_lines.specs.Lines.{text_of};
+ghost use Rattle.report_lines.specs.Lines.{line_of, text_of};
 ghost use Rattle.run_verifier.specs.declared.ending.Ending.TheVariants.{WriteFailed};
 ghost use Rattle.exchange_run.specs.Outcomes.{IsFlushed};
 ghost use Rattle.exchange_run.specs.Running.{AreOfAnswers, GrowthIsTold, HasMachine, IsAdded, RunsOn, ending_of, run_part};
@@ -26,7 +28,7 @@ use frame_engine::Carrier;
 use gate::Gate;
 use meters::Meter;
 use report_lines::{LineSink, ListingKind};
-use segment_run::{BufferPool, run_segment_with};
+use segment_run::{BufferPool, is_short, run_by_caller, run_segment_with};
 use std::alloc::AllocError;
 use std::sync::Wait;
 use std::thread::Threads;
@@ -122,8 +124,7 @@ fn taken<T>(place: &mut Option<T>) -> T
     }
 }
 
-// Runs one segment, and appends the lines of its events to those before them. The values for the next segment are moved
-// out meanwhile, so that no early return holds them, because their drop there is slow to prove.
+// Runs one segment, appends the lines of its events to those before them, and records its calls on the meters.
 fn report_segment<
     B: Switchboard,
     G: Gate,
@@ -158,17 +159,90 @@ fn report_segment<
         (B.board cx.now.board.now) (B.known seat.old) (B.known seat.new)) }
     ensures ready { OnOk result (HasMachine C.Carrier (B.board cx.now.board.now) (B.known seat.new).seen carried.new) }
 {
+    let told = lines.records().len();
+    run_one(cx, seat, segment, carried, lines)?;
+    tell(meters, lines.records_after(told))
+}
+
+// Runs one segment. The caller processes a short one in place, unless the gate requests threads.
+fn run_one<
+    B: Switchboard,
+    G: Gate,
+    C: Carrier,
+    L: ListingKind + Send + Drop,
+    R: Threads + Wait + Sync,
+>(
+    cx: &RunContext<'_, B, G, R>,
+    seat: &mut B::Seat,
+    segment: u32,
+    carried: &mut Option<SegmentResources<B::Seat, C, L>>,
+    lines: &mut LineSink<L>,
+) -> Result<(), AllocError>
+    requires seated { B.seated cx.now.board.now seat.old }
+    requires may { MayRun (B.board cx.now.board.now) cx.now.trace.now segment (B.known seat.old) }
+    requires sound { IsSound cx.now.trace.now }
+    requires ready { HasMachine C.Carrier (B.board cx.now.board.now) (B.known seat.old).seen carried.old }
+    ensures seated { B.seated cx.now.board.now seat.new }
+    ensures chief { IsChief (turns_of (B.board cx.now.board.now)) (B.known seat.new) }
+    ensures ran { Ran cx.now.trace.now segment (B.known seat.old) (B.known seat.new) }
+    ensures whole { OnOk result (RanWhole cx.now.trace.now segment (B.known seat.old) (B.known seat.new)) }
+    ensures answered { OnOk result ((kept : List Placed) → lines.old ≡ map (line_of L.listing) kept
+        → AddsAnswers (λ k answers. k ≡ map (line_of L.listing) answers) C.plays (table_of cx.now.trace.now.tones) (B.board cx.now.board.now) (B.known seat.old) (B.known seat.new) kept lines.new) }
+    ensures ready { OnOk result (HasMachine C.Carrier (B.board cx.now.board.now) (B.known seat.new).seen carried.new) }
+{
+    if cx.gate.apart() || !is_short(cx.trace, segment) {
+        return run_long(cx, seat, segment, carried, lines);
+    }
+    let Some(resources) = carried else {
+        unreachable!()
+    };
+    run_by_caller(
+        cx,
+        seat,
+        segment,
+        &mut resources.machine,
+        &mut resources.buffer_pool,
+        lines,
+    )
+}
+
+// Runs one segment, in threads if they pay. The values for the next segment are moved out meanwhile, so that no early
+// return holds them, because their drop there is slow to prove.
+#[inline(never)]
+fn run_long<
+    B: Switchboard,
+    G: Gate,
+    C: Carrier,
+    L: ListingKind + Send + Drop,
+    R: Threads + Wait + Sync,
+>(
+    cx: &RunContext<'_, B, G, R>,
+    seat: &mut B::Seat,
+    segment: u32,
+    carried: &mut Option<SegmentResources<B::Seat, C, L>>,
+    lines: &mut LineSink<L>,
+) -> Result<(), AllocError>
+    requires seated { B.seated cx.now.board.now seat.old }
+    requires may { MayRun (B.board cx.now.board.now) cx.now.trace.now segment (B.known seat.old) }
+    requires ready { HasMachine C.Carrier (B.board cx.now.board.now) (B.known seat.old).seen carried.old }
+    ensures seated { B.seated cx.now.board.now seat.new }
+    ensures chief { IsChief (turns_of (B.board cx.now.board.now)) (B.known seat.new) }
+    ensures ran { Ran cx.now.trace.now segment (B.known seat.old) (B.known seat.new) }
+    ensures whole { OnOk result (RanWhole cx.now.trace.now segment (B.known seat.old) (B.known seat.new)) }
+    ensures answered { OnOk result ((kept : List Placed) → lines.old ≡ map (line_of L.listing) kept
+        → AddsAnswers (λ k answers. k ≡ map (line_of L.listing) answers) C.plays (table_of cx.now.trace.now.tones) (B.board cx.now.board.now) (B.known seat.old) (B.known seat.new) kept lines.new) }
+    ensures ready { OnOk result (HasMachine C.Carrier (B.board cx.now.board.now) (B.known seat.new).seen carried.new) }
+{
     let SegmentResources {
         machine,
         buffer_pool,
     } = taken(carried);
-    let told = lines.records().len();
     let done = run_segment_with(cx, seat, segment, machine, buffer_pool, lines)?;
     *carried = Some(SegmentResources {
         machine: done.machine,
         buffer_pool: done.buffer_pool,
     });
-    tell(meters, lines.records_after(told))
+    Ok(())
 }
 
 // Writes the pending text if it is a whole piece, or if a meter added its summary. If nothing is listed, there is none.

@@ -30,6 +30,7 @@ mod working;
 
 pub use answers::{SegmentAnswer, SegmentOutput};
 pub use buffer_pool::BufferPool;
-pub use choice::MIN_PARALLEL_EVENTS;
+pub use by_caller::run_by_caller;
+pub use choice::{MIN_PARALLEL_EVENTS, is_short};
 pub use laws::{first_seat_is_chief, segments_leave_room, segments_make_lawful_orders};
 pub use run::{run_segment, run_segment_with};

@@ -128,8 +128,8 @@ pub fn run_segment_with<
     cx: &RunContext<B, G, R>,
     seat: &mut B::Seat,
     segment: u32,
-    machine: Box<Machine<C>>,
-    buffer_pool: BufferPool<B::Seat, K>,
+    mut machine: Box<Machine<C>>,
+    mut buffer_pool: BufferPool<B::Seat, K>,
     sink: &mut K,
 ) -> Result<SegmentOutput<B::Seat, C, K>, AllocError>
     requires seated { B.seated cx.now.board.now seat.old }
@@ -148,5 +148,9 @@ pub fn run_segment_with<
     if cx.gate.apart() || is_worth_threads(&loads) {
         return run_apart(cx, seat, segment, machine, buffer_pool, sink, &loads);
     }
-    run_by_caller(cx, seat, segment, machine, buffer_pool, sink)
+    run_by_caller(cx, seat, segment, &mut machine, &mut buffer_pool, sink)?;
+    Ok(SegmentOutput {
+        machine,
+        buffer_pool,
+    })
 }

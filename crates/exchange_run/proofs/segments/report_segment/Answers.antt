@@ -1,16 +1,14 @@
-use Rattle.std.proofs.Common.{length, ap, sym, ◌∙◌, arith, subst}
-use Rattle.call_processor.specs.Frames.{IsReady}
+use Rattle.std.proofs.Common.{length, ap, ◌∙◌, arith, subst}
 use Rattle.segment_run.proofs.LoadLemmas.{length-events_of_segment-le}
 use Rattle.segment_run.proofs.OrderLemmas.{numbers_left, seen_done}
 use Rattle.linked_exchange.specs.Telling.{AreTold, AreToldFront}
 use Rattle.exchange_run.proofs.Kept.{added, told_behind, told_within}
 use Rattle.linked_exchange.proofs.SteppingLemmas.{on_err, on_err_then, on_ok, on_ok_then}
-use Rattle.exchange_run.proofs.Pending.{at_some}
 use Rattle.linked_exchange.proofs.Tellings.{none_front}
 use Rattle.exchange_run.proofs.segments.report_segment.Goals as goal
 
-pub run_segment_with-requires-clause-may : goal.run_segment_with-requires-clause-may
-run_segment_with-requires-clause-may g c lifetimes outlive =
+pub run_one-requires-clause-may : goal.run_one-requires-clause-may
+run_one-requires-clause-may g c lifetimes outlive =
     let within = c.requires.segment in
     let v = g.B.Switchboard.known c.args.seat.now in
     record {
@@ -22,33 +20,29 @@ run_segment_with-requires-clause-may g c lifetimes outlive =
           (seen_done c.args.cx.now.trace.now c.args.segment v c.requires.sound (omega (arith, within)) c.requires.done);
     }
 
-pub returns-in_err-done-clause-told_front : goal.returns-in_err-done-clause-told_front
-returns-in_err-done-clause-told_front g c = on_err c.from_residual.result (none_front _ _ _ _)
-
-pub run_segment_with-requires-clause-ready : goal.run_segment_with-requires-clause-ready
-run_segment_with-requires-clause-ready g c lifetimes outlive =
-    at_some (λ carried. IsReady g.C.Carrier.carries g.C.Carrier.next g.C.Carrier.sizes (g.B.Switchboard.board c.args.cx.now.board.now) (g.B.Switchboard.known c.args.seat.now).seen carried.machine.value.engine carried.machine.value.context.tool) _ c.taken-machine.result (sym c.taken-machine.ensures) c.requires.ready
+pub returns-in_err-run_one-clause-told_front : goal.returns-in_err-run_one-clause-told_front
+returns-in_err-run_one-clause-told_front g c = on_err c.from_residual.result (none_front _ _ _ _)
 
 pub records_after-requires : goal.records_after-requires
 records_after-requires g c =
-    let a = added _ _ _ _ _ _ _ _ _ c.requires.trace c.run_segment_with.ensures.ran c.requires.kept c.in_ok-done.ensures.answered in
+    let a = added _ _ _ _ _ _ _ _ _ c.requires.trace c.run_one.ensures.ran c.requires.kept c.in_ok-run_one.ensures.answered in
     told_within _ _ _ _ _ _ _ a _ (ap length c.records-told.ensures)
 
 pub returns-clause-whole : goal.returns-clause-whole
-returns-clause-whole g c = on_ok c.tell.result c.in_ok-done.ensures.whole.whole
+returns-clause-whole g c = on_ok c.tell.result c.in_ok-run_one.ensures.whole
 
 pub returns-clause-ready : goal.returns-clause-ready
-returns-clause-ready g c = on_ok c.tell.result c.in_ok-done.ensures.whole.ready
+returns-clause-ready g c = on_ok c.tell.result c.in_ok-run_one.ensures.ready
 
 pub returns-clause-added : goal.returns-clause-added
-returns-clause-added g c = on_ok c.tell.result (added _ _ _ _ _ _ _ _ _ c.requires.trace c.run_segment_with.ensures.ran c.requires.kept c.in_ok-done.ensures.answered)
+returns-clause-added g c = on_ok c.tell.result (added _ _ _ _ _ _ _ _ _ c.requires.trace c.run_one.ensures.ran c.requires.kept c.in_ok-run_one.ensures.answered)
 
 pub returns-clause-told : goal.returns-clause-told
 returns-clause-told g c =
-    let a = added _ _ _ _ _ _ _ _ _ c.requires.trace c.run_segment_with.ensures.ran c.requires.kept c.in_ok-done.ensures.answered in
+    let a = added _ _ _ _ _ _ _ _ _ c.requires.trace c.run_one.ensures.ran c.requires.kept c.in_ok-run_one.ensures.answered in
     on_ok_then c.tell.result c.tell.ensures.told (subst (AreTold _ _ c.args.meters.now.items c.tell.new.meters.items) (c.records_after.ensures ∙ told_behind _ _ _ _ _ _ _ a _ (ap length c.records-told.ensures)))
 
 pub returns-clause-told_front : goal.returns-clause-told_front
 returns-clause-told_front g c =
-    let a = added _ _ _ _ _ _ _ _ _ c.requires.trace c.run_segment_with.ensures.ran c.requires.kept c.in_ok-done.ensures.answered in
+    let a = added _ _ _ _ _ _ _ _ _ c.requires.trace c.run_one.ensures.ran c.requires.kept c.in_ok-run_one.ensures.answered in
     on_err_then c.tell.result c.tell.ensures.front (subst (AreToldFront _ _ c.args.meters.now.items c.tell.new.meters.items) (c.records_after.ensures ∙ told_behind _ _ _ _ _ _ _ a _ (ap length c.records-told.ensures)))

@@ -35,12 +35,13 @@ pub returns-clause-whole : goal.returns-clause-whole
 returns-clause-whole g c =
     let K = g.B.Switchboard.known in
     let all : IsTrue (is_ok c.run_sequential-done.result) = search rules in
-    let order = c.run_sequential-done.ensures.in_order in
-    record {
-      whole = alone_whole c.args.cx.now.trace.now c.args.segment (K c.args.seat.now) (K c.run_sequential-done.new.seat) (is_ok c.run_sequential-done.result) order all;
-      long = alone_long c.args.cx.now.trace.now c.args.segment (K c.args.seat.now) (K c.run_sequential-done.new.seat) (is_ok c.run_sequential-done.result) order all;
-      ready = c.run_sequential-done.ensures.ready;
-    }
+    alone_whole c.args.cx.now.trace.now c.args.segment (K c.args.seat.now) (K c.run_sequential-done.new.seat) (is_ok c.run_sequential-done.result) c.run_sequential-done.ensures.in_order all
+
+pub returns-clause-long : goal.returns-clause-long
+returns-clause-long g c =
+    let K = g.B.Switchboard.known in
+    let all : IsTrue (is_ok c.run_sequential-done.result) = search rules in
+    alone_long c.args.cx.now.trace.now c.args.segment (K c.args.seat.now) (K c.run_sequential-done.new.seat) (is_ok c.run_sequential-done.result) c.run_sequential-done.ensures.in_order all
 
 pub returns-clause-answered : goal.returns-clause-answered
 returns-clause-answered g c = λ kept have.
