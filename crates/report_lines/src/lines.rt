@@ -294,7 +294,28 @@ fn append_one(
     if calls.is_empty() {
         return Ok(entries.push(entry)?);
     }
-    append_entries(records, entries, calls, &[entry])
+    append_told(records, entries, calls, entry)
+}
+
+// Appends the records of a line, and its entry. An error leaves both unchanged.
+#[inline(never)]
+fn append_told(
+    records: &mut Vec<CallRecord>,
+    entries: &mut Vec<LineEntry>,
+    calls: &[CallRecord],
+    entry: LineEntry,
+) -> Result<(), AllocError>
+    ensures records { OnOk result (records.new.items ≡ records.old.items ++ calls.now) }
+    ensures entries { OnOk result (entries.new.items ≡ entries.old.items ++ entry ∷ []) }
+    ensures kept { OnErr result ((records.new.items ≡ records.old.items) × (entries.new.items ≡ entries.old.items)) }
+{
+    let start = records.len();
+    records.extend_from_slice(calls)?;
+    if entries.push(entry).is_err() {
+        records.truncate(start);
+        return Err(AllocError);
+    }
+    Ok(())
 }
 
 // Appends records and entries. An error leaves both unchanged.
