@@ -9,8 +9,9 @@
 //!   with the octets that the engine outputs (`answered`).
 //! - The machine is ready for the next frame (`whole`).
 //!
-//! A [`BufferPool`] has the buffers of the workers, which serve one segment after another. [`run_segment`] runs one
-//! segment and returns complete answers. Segments that run in sequence have a lawful order
+//! A [`BufferPool`] has the buffers of the workers, which serve one segment after another. [`run_by_caller`] runs a
+//! segment with a machine and a pool that stay where they are, which suits a short one ([`is_short`]). [`run_segment`]
+//! runs one segment and returns complete answers. Segments that run in sequence have a lawful order
 //! ([`segments_make_lawful_orders`]).
 #![tactic(auto)]
 
