@@ -25,7 +25,7 @@ use std::thread::Threads;
 /// links between two steps.
 ///
 /// The caller may read the fields between two steps. A write to a field ends the relation to an exchange state.
-#[derive(Debug, Drop)]
+#[derive(Drop)]
 pub struct LinkedExchange<P: PathMap, C: Carrier> {
     /// The exchange: the circuits, the legs of the calls, the engine, and the messages and records of the last step.
     pub exchange: LoneExchange<P, C>,

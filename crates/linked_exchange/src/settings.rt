@@ -5,7 +5,7 @@ use number_plan::Plan;
 use tone_rules::Tones;
 
 /// The settings of an exchange with data links, by which it processes each step.
-#[derive(Clone, Copy, Debug)]
+#[derive(Clone, Copy)]
 pub struct Settings<'a> {
     /// The number plan.
     pub plan: &'a Plan,

@@ -22,7 +22,7 @@ use std::alloc::AllocError;
 use std::thread::Threads;
 
 /// An event of a trace with data links.
-#[derive(Clone, Copy, Debug)]
+#[derive(Clone, Copy)]
 pub enum LinkedEvent<'a> {
     /// An event of a trace without data links.
     Event(&'a Event),
