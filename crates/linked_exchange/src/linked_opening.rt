@@ -7,6 +7,7 @@ use control_memory::Fabric;
 use frame_engine::Carrier;
 use linked_text::LinkHeading;
 use std::alloc::{AllocError, Global};
+use std::mem;
 use std::thread::Threads;
 
 /// Makes the exchange of a heading with data links before its first event. It does nothing if there is one.
@@ -56,7 +57,7 @@ fn open_linked_into<P: Fabric, C: Carrier, R: Threads + Sync>(
     };
     let row = heading.link_row(alloc, sizes.external)?;
     let paths = P::unused(alloc, sizes.external + sizes.bridges)?;
-    *exchange = Some(LinkedExchange::new(
+    let opened = LinkedExchange::new(
         rt,
         alloc,
         sizes.external,
@@ -64,6 +65,8 @@ fn open_linked_into<P: Fabric, C: Carrier, R: Threads + Sync>(
         &settings,
         row.as_slice(),
         paths,
-    )?);
+    )?;
+    // There is no exchange that has to be dropped, and a drop would be expensive to prove.
+    mem::forget(exchange.replace(opened));
     Ok(())
 }

@@ -7,6 +7,7 @@ use control_memory::Fabric;
 use frame_engine::Carrier;
 use lone_exchange::LoneExchange;
 use std::alloc::{AllocError, Global};
+use std::mem;
 use trace_text::{Heading, Sizes};
 
 // Makes the exchange with the sizes and the timers of a heading, before its first event.
@@ -65,6 +66,8 @@ fn open_into<P: Fabric, C: Carrier>(
     let Some(sizes) = heading.sizes() else {
         unreachable!()
     };
-    *exchange = Some(opened(alloc, heading, sizes)?);
+    let opened = opened(alloc, heading, sizes)?;
+    // There is no exchange that has to be dropped, and a drop would be expensive to prove.
+    mem::forget(exchange.replace(opened));
     Ok(())
 }
