@@ -16,3 +16,4 @@ pub mod LinkedSteppingLemmas
 pub mod FollowedStories
 pub mod PlainInTurn
 pub mod Tellings
+pub mod Fronts

@@ -1,17 +1,16 @@
 -- An event of a trace with data links that is followed: the exchange before it, its line, and the exchange after it.
-use Rattle.std.proofs.Common.{◌≡◌, ℕ, ◌+◌, ◌≤◌, Bool, true, false, List, [], ◌∷◌, ◌++◌, length, Option, Some, None, Result, Ok, Err, refl, sym, ap, ◌∙◌, subst, arith, append-nil, append_assoc, ◌⊎◌, inl, inr, if◌then◌else◌}
+use Rattle.std.proofs.Common.{◌≡◌, ℕ, ◌+◌, ◌≤◌, Bool, true, false, not, List, [], ◌∷◌, ◌++◌, length, Option, Some, None, Result, Ok, Err, refl, sym, ap, ◌∙◌, subst, arith, append-nil, append_assoc, ◌⊎◌, inl, inr, if◌then◌else◌}
 use Rattle.std.specs.Prelude.{All}
 use Rattle.std.specs.List.{cons_option}
 use Rattle.std.proofs.lemmas.List.Elements.{All-append, All-cons, All-nil, filter_map-append}
 use Rattle.circuit_model.specs.Dimensions.{Dimensions}
 use Rattle.circuit_model.specs.FrameInput.{Input}
-use Rattle.circuit_model.proofs.Slots.{true_or_false}
 use Rattle.exchange_events.specs.declared.outbox.Outbox.{Outbox}
 use Rattle.exchange_events.specs.declared.outbox.Response.{Response}
 use Rattle.exchange_events.specs.declared.outbox.Response.TheVariants as response
 use Rattle.exchange_events.specs.declared.record.CallRecord.{CallRecord}
 use Rattle.exchange_events.specs.declared.reply.Reply.{Reply}
-use Rattle.exchange_events.specs.declared.reply.Reply.TheVariants.{Busy, Freed, NotNailed, Frame as Framed}
+use Rattle.exchange_events.specs.declared.reply.Reply.TheVariants.{Busy, Freed, NoPort, NotNailed, Sent, Frame as Framed}
 use Rattle.exchange_events.specs.declared.signal.Signal.{Signal}
 use Rattle.exchange_events.specs.declared.trace.Event.{Event}
 use Rattle.exchange_events.specs.declared.trace.Event.TheVariants.{Nail, Seat, Free, Message, LinkUp, LinkDown, RestartLine, Frame}
@@ -71,24 +70,25 @@ seat_no_frame : (d : Dimensions) (w : World) (x : Slot) (o : Option Slot) (n : �
 seat_no_frame d w x None n sends records e = absurd (cc)
 seat_no_frame d w x (Some port) n sends records e = absurd (cc)
 
+sent_no_frame : (sends : List Signal) (moved : Option (ℕ × ℕ)) (records : List CallRecord) (n : ℕ) (ss : List Signal) (rs : List CallRecord) → Framed n ss rs ≡ Sent sends moved records → ⊥
+sent_no_frame sends moved records n ss rs e = absurd (cc)
+
 -- only a frame is answered by its number
 framed_is : (s : Setting) (w : World) (e : Event) (n : ℕ) (sends : List Signal) (records : List CallRecord) → Framed n sends records ≡ reply s w e → (input : Input) × (e ≡ Frame input)
 framed_is s w (Nail x y) n sends records is =
     absurd (busy_or (may_nail w x y) Busy n sends records (λ m ss rs e. absurd (cc)) (nail_reply s.dimensions w.layout x y) (λ m ss rs e. absurd (cc)) (sym is))
 framed_is s w (Seat x room) n sends records is =
-    elim (true_or_false (idle w x)) [
-      | inr other ↦ let bad = rw other at is in absurd (cc)
-      | inl free ↦ elim (true_or_false (is_full s.dimensions w)) [
-        | inl full ↦ let bad = rw (free, full) at is in absurd (cc)
-        | inr more ↦ let got = rw (free, more) at is in absurd (seat_no_frame s.dimensions w x (port_of s.dimensions.external (ports_with x w.ports) x) n sends records (sym got))
-      ]
-    ]
+    let port : Option Slot = port_of s.dimensions.external (ports_with x w.ports) x in
+    let seated : Reply = seat_reply s.dimensions w.layout x port in
+    absurd (busy_or (not (idle w x)) (if is_full s.dimensions w then NoPort else seated) n sends records
+    (λ m ss rs e. busy_or (is_full s.dimensions w) seated m ss rs (seat_no_frame s.dimensions w x port) NoPort (λ k sss rss f. absurd (cc)) e)
+    Busy (λ m ss rs e. absurd (cc)) (sym is))
 framed_is s w (Free x) n sends records is =
     absurd (busy_or (is_nailed w x) NotNailed n sends records (λ m ss rs e. absurd (cc)) Freed (λ m ss rs e. absurd (cc)) (sym is))
-framed_is s w (Message line octets) n sends records is = absurd (cc)
-framed_is s w (LinkUp line) n sends records is = absurd (cc)
-framed_is s w (LinkDown line) n sends records is = absurd (cc)
-framed_is s w (RestartLine line) n sends records is = absurd (cc)
+framed_is s w (Message line octets) n sends records is = absurd (sent_no_frame _ _ _ n sends records is)
+framed_is s w (LinkUp line) n sends records is = absurd (sent_no_frame _ _ _ n sends records is)
+framed_is s w (LinkDown line) n sends records is = absurd (sent_no_frame _ _ _ n sends records is)
+framed_is s w (RestartLine line) n sends records is = absurd (sent_no_frame _ _ _ n sends records is)
 framed_is s w (Frame input) n sends records is = (input, refl)
 
 noticed_framed : (s : Setting) (w : World) (line : ℕ) (r : Result (Option Notice) NoLinkError) (n : ℕ) (sends : List Signal) (records : List CallRecord) → Framed n sends records ≡ reply_to s w (noticed_events line r) → ⊥
