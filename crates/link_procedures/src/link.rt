@@ -10,7 +10,7 @@ use link_frames::{Control, Frame};
 use std::marker::Model;
 
 /// A data link. A contract views it as the record of its variables.
-#[derive(Debug, Drop)]
+#[derive(Drop)]
 pub struct Link {
     pub(crate) state: State,
     pub(crate) asked: bool,

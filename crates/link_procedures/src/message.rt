@@ -7,7 +7,7 @@ use std::marker::Model;
 
 /// The message unit of a DL-DATA request (Q.921, section 4): the octets of a message of layer 3, at most 112. A contract
 /// views them as a list.
-#[derive(Clone, Debug, Default, Drop)]
+#[derive(Clone, Default, Drop)]
 pub struct MessageUnit {
     octets: ArrayVec<u8, MAX_MESSAGE_UNIT_LEN>,
 }

@@ -11,7 +11,7 @@ use std::marker::Model;
 pub const MAX_FRAMES: usize = 80;
 
 /// The octets of the frames that a step sends, in order. A contract views them as a list of lists.
-#[derive(Debug, Drop)]
+#[derive(Drop)]
 pub struct FrameOutbox {
     frames: ArrayVec<FrameOctets, MAX_FRAMES>,
 }

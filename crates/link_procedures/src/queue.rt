@@ -15,7 +15,7 @@ pub const MAX_QUEUE_LEN: usize = 64;
 const WINDOW: u8 = 7;
 
 /// The messages that are not acknowledged, in order, the number of them that are sent, and V(A) (Q.921, 3.5.2).
-#[derive(Debug, Drop)]
+#[derive(Drop)]
 pub struct Queue {
     waiting: ArrayVec<MessageUnit, MAX_QUEUE_LEN>,
     sent: u8,

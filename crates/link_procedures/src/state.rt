@@ -2,7 +2,7 @@
 
 /// The state of a link (Q.921, annex B). States 1 to 3 belong to TEI assignment. State 6, awaiting release, follows a
 /// request of layer 3, which this exchange does not make.
-#[derive(Clone, Copy, Debug, PartialEq, Eq)]
+#[derive(Clone, Copy, PartialEq, Eq)]
 pub enum State {
     /// State 4, TEI assigned: there is no link.
     TeiAssigned,
@@ -52,7 +52,7 @@ impl State {
 }
 
 /// The running timer. Exactly one timer runs.
-#[derive(Clone, Copy, Debug, PartialEq, Eq)]
+#[derive(Clone, Copy, PartialEq, Eq)]
 pub enum Running {
     /// T200: the time for the response to a command (5.9.1), or until the next attempt in state 4.
     T200,
@@ -61,7 +61,7 @@ pub enum Running {
 }
 
 /// A running timer.
-#[derive(Clone, Copy, Debug, PartialEq, Eq)]
+#[derive(Clone, Copy, PartialEq, Eq)]
 pub struct Timer {
     /// The timer.
     pub running: Running,
@@ -70,7 +70,7 @@ pub struct Timer {
 }
 
 /// The values of the timers of a data link (Q.921, 5.9), each in frames of 125 microseconds.
-#[derive(Clone, Copy, Debug, PartialEq, Eq)]
+#[derive(Clone, Copy, PartialEq, Eq)]
 pub struct LinkTimers {
     /// T200, in Q.921 usually 1 second.
     pub t200: u32,
@@ -79,7 +79,7 @@ pub struct LinkTimers {
 }
 
 /// An indication to layer 3.
-#[derive(Clone, Copy, Debug, PartialEq, Eq)]
+#[derive(Clone, Copy, PartialEq, Eq)]
 pub enum Indication {
     /// DL-DATA indication: the information field of the received frame is the next message.
     Data,

@@ -8,7 +8,7 @@ use link_procedures::Indication;
 use thiserror::Error;
 
 /// A change of a link. Messages that were not delivered are lost.
-#[derive(Clone, Copy, Debug, PartialEq, Eq)]
+#[derive(Clone, Copy, PartialEq, Eq)]
 pub enum Change {
     /// The link is established: DL-ESTABLISH indication or confirm.
     Up,
@@ -17,7 +17,7 @@ pub enum Change {
 }
 
 /// A notice to call control after a received frame.
-#[derive(Clone, Debug, Drop)]
+#[derive(Clone, Drop)]
 pub enum Notice<'a> {
     /// The next message: DL-DATA indication.
     Message(Information<'a>),

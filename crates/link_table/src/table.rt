@@ -15,7 +15,7 @@ pub const LINES: u32 = 32;
 
 /// The links of the lines of an exchange, with the frames of the last step. A contract views them as the record
 /// `Table`.
-#[derive(Debug, Drop)]
+#[derive(Drop)]
 pub struct LinkTable {
     pub(crate) links: Vec<Option<Link>>,
     pub(crate) receiving: Option<u8>,

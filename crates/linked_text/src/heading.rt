@@ -15,7 +15,7 @@ use trace_text::{Happening, Heading, Limits, LineError, Reason, first_word, is_t
 /// with a data link, and the timers of the links. A contract views it as that record.
 ///
 /// In the heading, a received frame counts as an event.
-#[derive(Debug, Drop)]
+#[derive(Drop)]
 pub struct LinkHeading {
     heading: Heading,
     linked: LineList,

@@ -4,7 +4,7 @@ use exchange_events::Octets;
 use trace_text::Happening;
 
 /// The kinds of line that concern a data link.
-#[derive(Clone, Copy, Debug)]
+#[derive(Clone, Copy)]
 pub enum LinkKind {
     /// A line receives a frame on its data link.
     Received,
@@ -19,7 +19,7 @@ pub enum LinkKind {
 }
 
 /// The content of a line that concerns a data link.
-#[derive(Debug, Drop)]
+#[derive(Drop)]
 pub enum LinkSaid {
     /// This line has a data link.
     Linked(u8),
@@ -30,7 +30,7 @@ pub enum LinkSaid {
 }
 
 /// The effect of a line.
-#[derive(Debug, Drop)]
+#[derive(Drop)]
 pub enum LinkHappening {
     /// The effect of a line of a trace without data links. A line that only sets a link or a timer has none.
     Plain(Happening),

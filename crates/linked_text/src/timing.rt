@@ -11,7 +11,7 @@ const USUAL_T200: u32 = 8000;
 const USUAL_T203: u32 = 80_000;
 
 /// A timer of a data link (ITU-T Q.921, 5.9).
-#[derive(Clone, Copy, Debug)]
+#[derive(Clone, Copy)]
 pub enum LinkTimerName {
     /// The retransmission timer.
     T200,
@@ -20,7 +20,7 @@ pub enum LinkTimerName {
 }
 
 /// The content of a line `timer` for the data links.
-#[derive(Clone, Copy, Debug)]
+#[derive(Clone, Copy)]
 pub struct GivenLinkTimer {
     /// The timer.
     pub name: LinkTimerName,
@@ -29,7 +29,7 @@ pub struct GivenLinkTimer {
 }
 
 /// The durations in frames that the lines so far set. `None` for a timer without a line.
-#[derive(Clone, Copy, Debug)]
+#[derive(Clone, Copy)]
 pub struct GivenLinkTimers {
     /// The retransmission timer.
     pub t200: Option<u32>,
