@@ -1,0 +1,5 @@
+use Rattle.std.proofs.Transfers.{starts_with_trans}
+use Rattle.linked_text.proofs.report.put_turn.Goals as goal
+
+pub returns-clause-front : goal.returns-clause-front
+returns-clause-front c = starts_with_trans _ _ _ c.put_sent_on_lines.ensures.front c.put_change.ensures.front
