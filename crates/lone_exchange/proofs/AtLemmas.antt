@@ -1,5 +1,5 @@
 -- The world after an event, as an exchange that one caller drives is in it.
-use Rattle.std.proofs.Common.{◌≡◌, ℕ, ◌+◌, List, [], ◌∷◌, ◌++◌, length, take, drop, drop_of_length-le, append-nil, take_all, sym, ap, ◌∙◌, subst, arith}
+use Rattle.std.proofs.Common.{◌≡◌, ℕ, ◌+◌, ◌≤◌, refl, List, [], ◌∷◌, ◌++◌, length, take, drop, drop_of_length-le, append-nil, take_all, sym, ap, ◌∙◌, subst, arith}
 use Rattle.std.proofs.lemmas.List.Elements.{All-nil, All-cons, All-append}
 use Rattle.circuit_model.specs.Dimensions.{Dimensions}
 use Rattle.circuit_model.specs.FrameInput.{Input}
@@ -23,14 +23,14 @@ use Rattle.call_profile.specs.World.{World, pass, start}
 use Rattle.call_profile.proofs.HistoryLemmas.{made, made_pass}
 use Rattle.call_profile.proofs.QuietEventLemmas.{SameFrames-next, passed_same}
 use Rattle.call_profile.proofs.RunLemmas.{world-snoc}
-use Rattle.call_profile.proofs.StandingLegLemmas.{run_stands}
+use Rattle.call_profile.proofs.StandingLegLemmas.{run_stands, start_stands}
 use Rattle.call_control.specs.AtWork.{IsAtWork}
 use Rattle.call_control.specs.Standing.{Holds}
 use Rattle.exchange_core.specs.declared.tool.Tool.{Tool}
 use Rattle.exchange_core.specs.declared.tool.Tool.TheVariants as tool
 use Rattle.exchange_core.specs.Working.{IsToolFor, ShowsWorld}
 use Rattle.lone_exchange.specs.declared.exchange.LoneExchange.{LoneExchange}
-use Rattle.lone_exchange.specs.At.{ArePlayed, Carrying, ComesAbout, IsAt, IsFrameTool}
+use Rattle.lone_exchange.specs.At.{ArePlayed, AreUnused, Carrying, ComesAbout, HoldsNothing, IsAt, IsFrameTool, StartsAt, size}
 
 -- ---- the world, and the map and the legs, after an event
 
@@ -55,6 +55,26 @@ work_after map map_after legs legs_after s w e work fits holds = record {
   holds = holds;
   planned = work.planned;
   stands = run_stands s w (e ∷ []) work.planned (All-cons (Fits s.dimensions.external) e [] (fits_too map legs s w e work fits) (All-nil (Fits s.dimensions.external))) work.stands;
+}
+
+-- ---- before the first event
+
+pub starts_at : {P E : Type 0} (carries : Carrying E) (frames : E → ℕ) (sizes : E → Dimensions) (external bridges slots : ℕ) (x : LoneExchange P E)
+    → external ≤ 32 → HoldsNothing external bridges slots x.control.map x.control.legs → AreUnused carries frames sizes (size external bridges slots) x.engine x.context.tool
+    → length x.octets.items ≡ external → StartsAt carries frames sizes external bridges slots x
+starts_at carries frames sizes external bridges slots x few nothing unused lines s is planned = record {
+  few = subst (λ (d : Dimensions). d.external ≤ 32) (sym is) few;
+  work = record {
+    holds = subst (λ (d : Dimensions). Holds d x.control.map x.control.legs (start d)) (sym is) nothing;
+    planned = planned;
+    stands = start_stands s;
+  };
+  came = record { events = []; fit = All-nil (Fits s.dimensions.external); after = refl };
+  carried = unused.carried;
+  number = unused.number;
+  sized = unused.sized ∙ sym is;
+  image = subst (λ (d : Dimensions). IsFrameTool d x.context.tool) (sym is) unused.image;
+  lines = lines ∙ sym (ap (λ (d : Dimensions). d.external) is);
 }
 
 -- ---- an event that is not a frame

@@ -32,7 +32,7 @@ use tone_rules::Tones;
 /// An exchange that one caller drives. The definition `IsAt` states its exchange state.
 ///
 /// The caller may read the fields between two events. A write to a field ends the relation to an exchange state.
-#[derive(Debug, Drop)]
+#[derive(Drop)]
 pub struct LoneExchange<P: PathMap, C: Carrier> {
     /// The circuits with their paths and conference ports, and the legs of the calls.
     pub control: CallControl<P>,
