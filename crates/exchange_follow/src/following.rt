@@ -40,20 +40,31 @@ struct FollowEnd<C: Carrier> {
     engine: Option<C>,
 }
 
-// Returns the engine of an exchange, if all lines were processed.
+// Returns the engine of an exchange.
+fn engine_in<P: PathMap + Drop, C: Carrier>(exchange: Option<LoneExchange<P, C>>) -> Option<C>
+    ensures { result ≡ option_map (λ x. x.engine) exchange }
+{
+    match exchange {
+        Some(driver) => Some(driver.engine),
+        None => None,
+    }
+}
+
+// Returns the engine of an exchange, if all lines were processed. Each way out of a function with parts of an exchange
+// is expensive to prove, so the parts are dropped first.
 fn engine_of<P: PathMap + Drop, C: Carrier>(
     ending: Following,
     exchange: Option<LoneExchange<P, C>>,
 ) -> Option<C>
     ensures { result ≡ engine_returned ending (option_map (λ x. x.engine) exchange) }
 {
-    match (ending, exchange) {
-        (Following::Completed, Some(driver)) => Some(driver.engine),
-        (Following::Completed, None) => None,
-        (Following::Refused, _) => None,
-        (Following::ReadFailed, _) => None,
-        (Following::WriteFailed, _) => None,
-        (Following::OutOfMemory, _) => None,
+    let engine = engine_in(exchange);
+    match ending {
+        Following::Completed => engine,
+        Following::Refused => None,
+        Following::ReadFailed => None,
+        Following::WriteFailed => None,
+        Following::OutOfMemory => None,
     }
 }
 
