@@ -102,13 +102,7 @@ impl<P: PathMap, C: Carrier> LoneExchange<P, C> {
     {
         match event {
             Event::Frame(input) => self.carry(rt, plan, tones, timers, event, input),
-            Event::Nail(_, _) => self.command(plan, tones, timers, event),
-            Event::Seat(_, _) => self.command(plan, tones, timers, event),
-            Event::Free(_) => self.command(plan, tones, timers, event),
-            Event::Message(_, _) => self.command(plan, tones, timers, event),
-            Event::LinkUp(_) => self.command(plan, tones, timers, event),
-            Event::LinkDown(_) => self.command(plan, tones, timers, event),
-            Event::RestartLine(_) => self.command(plan, tones, timers, event),
+            _ => self.command(plan, tones, timers, event),
         }
     }
 
