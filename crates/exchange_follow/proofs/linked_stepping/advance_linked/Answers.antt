@@ -21,3 +21,6 @@ returns-then-is_err-clause-front g c told z due = c.process_linked-done.ensures.
 
 pub returns-else-is_err-clause-happened : goal.returns-else-is_err-clause-happened
 returns-else-is_err-clause-happened g c told z due = c.process_linked-done.ensures.happened told z (linked_ready g.C.Carrier.carries g.C.Carrier.next g.C.Carrier.sizes g.P.Fabric.slots g.P.Fabric.moves told z c.args.heading.now c.ready_linked.new.exchange c.in-Some.driver c.args.event.now c.args.exchange.now (c.in_ok-ready_linked.ensures.running told z due.heard) c.in-Some.is due)
+
+pub returns-else-is_err-clause-front : goal.returns-else-is_err-clause-front
+returns-else-is_err-clause-front g c told z due = c.process_linked-done.ensures.front told z (linked_ready g.C.Carrier.carries g.C.Carrier.next g.C.Carrier.sizes g.P.Fabric.slots g.P.Fabric.moves told z c.args.heading.now c.ready_linked.new.exchange c.in-Some.driver c.args.event.now c.args.exchange.now (c.in_ok-ready_linked.ensures.running told z due.heard) c.in-Some.is due)

@@ -1,4 +1,5 @@
 use Rattle.std.proofs.Common.{◌≡◌, ◌++◌, ap, subst, ◌∙◌}
+use Rattle.std.proofs.Transfers.{starts_with_trans}
 use Rattle.exchange_events.specs.declared.outbox.Response.TheVariants as response
 use Rattle.exchange_events.specs.Responses.{reply_of}
 use Rattle.call_profile.specs.Step.{MovesAtMost}
@@ -118,3 +119,9 @@ returns-clause-front g c told z due =
     let more = step_records s c.link_timers-link_timers.result later Turns response.Sent c.put_turn_step.new.exchange.exchange.context.out c.records-2.result.now c.records-2.ensures turned in
     on_err_then c.tell-2.result c.tell-2.ensures.front (λ front.
     front_both g.C.Carrier.plays g.C.Carrier.carries g.C.Carrier.next g.C.Carrier.sizes g.P.Fabric.slots g.P.Fabric.moves (λ m. (goal.Meter-dyn g (m.vtable, m.value)).stands m.value) (λ m. (goal.Meter-dyn g (m.vtable, m.value)).text m.value) told z c.args.heading.now c.args.exchange.now c.args.event.now due (settings_of c.plan.result.now c.tones.result.now c.timers-timers.result c.link_timers-link_timers.result) is found.0 found.1 c.args.meters.now.items c.tell.new.meters.items c.tell-2.new.meters.items c.records.result.now c.records-2.result.now records more c.in_ok-tell.ensures.told front)
+
+pub returns-in_err-put_turn_step-clause-prefix : goal.returns-in_err-put_turn_step-clause-prefix
+returns-in_err-put_turn_step-clause-prefix g c = starts_with_trans _ _ _ c.put_turn_step.ensures.front c.put_step.ensures.front
+
+pub returns-clause-prefix : goal.returns-clause-prefix
+returns-clause-prefix g c = starts_with_trans _ _ _ c.put_turn_step.ensures.front c.put_step.ensures.front
