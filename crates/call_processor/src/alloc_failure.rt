@@ -3,7 +3,7 @@ use std::sync::atomic::{AtomicU64, Ordering};
 
 /// A flag that is set when an allocation of a worker fails, so that the other workers can stop. Nothing is proved of
 /// it.
-#[derive(Debug, Drop)]
+#[derive(Drop)]
 pub struct AllocFailureFlag {
     // 0, or 1 once an allocation has failed.
     flag: AtomicU64,

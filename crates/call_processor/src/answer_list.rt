@@ -10,7 +10,7 @@ use std::alloc::{AllocError, Global};
 use std::collections::VecDeque;
 
 /// An answer sink that stores complete answers.
-#[derive(Debug, Drop)]
+#[derive(Drop)]
 pub struct AnswerList {
     /// The answers, in the order in which they were appended.
     pub items: VecDeque<Placed>,

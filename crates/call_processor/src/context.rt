@@ -2,7 +2,7 @@ use exchange_events::Trace;
 use std::alloc::Global;
 
 /// The values that every event of a run is processed with and that no event changes.
-#[derive(Debug, Drop)]
+#[derive(Drop)]
 pub struct RunContext<'a, B, G, R> {
     /// The runtime, which starts threads and waits.
     pub rt: &'a R,

@@ -5,7 +5,7 @@ use exchange_events::Answer;
 use std::alloc::{AllocError, Global};
 
 /// An answer, and the position of its entry in the history, counted from 0.
-#[derive(Debug, Drop)]
+#[derive(Drop)]
 pub struct Placed {
     /// The position of its entry in the history.
     pub place: u32,
@@ -14,7 +14,7 @@ pub struct Placed {
 }
 
 /// The result of one worker's part of a segment.
-#[derive(Debug, Drop)]
+#[derive(Drop)]
 pub struct Worked<T> {
     /// The worker's seat.
     pub seat: T,
@@ -25,7 +25,7 @@ pub struct Worked<T> {
 }
 
 /// The result of the frame worker's part of a segment, with the engine and the control memory.
-#[derive(Debug, Drop)]
+#[derive(Drop)]
 pub struct Framed<T, C> {
     /// The result of its part.
     pub worked: Worked<T>,
@@ -58,7 +58,7 @@ pub struct WorkerOutput<T, K> {
 }
 
 /// The result of the frame worker's part of a segment, with its buffers and its machine.
-#[derive(Debug, Drop)]
+#[derive(Drop)]
 pub struct FrameWorkerOutput<T, C, K> {
     /// The result of its part.
     pub output: WorkerOutput<T, K>,
