@@ -10,7 +10,7 @@ use crate::lines::{put_message, put_part, put_sync};
 use std::alloc::AllocError;
 
 /// A call of a line, and the number of its frames.
-#[derive(Clone, Copy, Debug)]
+#[derive(Clone, Copy)]
 pub struct Call {
     caller: u8,
     callee: Callee,

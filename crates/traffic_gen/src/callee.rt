@@ -13,7 +13,7 @@ use std::alloc::AllocError;
 const SETUP: [u8; 30] = *b"080200010504038090A37003803330";
 
 /// The called party: one of the eight lines, or the conference room.
-#[derive(Clone, Copy, Debug)]
+#[derive(Clone, Copy)]
 pub enum Callee {
     Line(u8),
     Room,

@@ -8,7 +8,7 @@ const MULTIPLIER: u64 = 6364136223846793005;
 const INCREMENT: u64 = 1442695040888963407;
 
 /// A linear congruential generator on 64 bits.
-#[derive(Debug, Drop)]
+#[derive(Drop)]
 pub struct Draws {
     state: u64,
 }
