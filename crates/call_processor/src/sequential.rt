@@ -94,7 +94,9 @@ pub fn run_sequential<B: Switchboard, G: Gate, C: Carrier, K: AnswerSink, R: Thr
     ensures works { KeepsSegment K.holds C.plays B.board B.known cx.now segment seat sink (is_ok result) }
     ensures ready { IsReadyAt C.carries C.next C.sizes (B.board cx.now.board.now) (B.known seat.new) machine.new }
 {
-    buffers.context.tool = Tool::Nothing;
+    if !matches!(buffers.context.tool, Tool::Nothing) {
+        buffers.context.tool = Tool::Nothing;
+    }
     let external = usize::from(cx.trace.external);
     grow(cx.alloc, &mut machine.octets, external)?;
     let (first, end) = event_range(cx.trace, segment);
