@@ -12,7 +12,7 @@ asked_of a = record {
   high = a.high.now;
 }
 
--- contents that were found, or else those of the rest
+-- contents that were found, or else the contents in the rest
 abbrev pub first_or : Option (List ℕ) → Option (List ℕ) → Option (List ℕ)
 first_or (Some contents) others = Some contents
 first_or None others = others

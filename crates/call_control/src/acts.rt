@@ -323,7 +323,7 @@ impl<P: PathMap> CallControl<P> {
     }
 }
 
-// Sends the STATUS to the user of a leg that a message is unexpected. It is a function of its own because it is rare.
+// Sends the STATUS to the user of a leg that a message is unexpected. A separate function, because it is rare.
 #[inline(never)]
 fn report_unexpected(out: &mut Outbox, held: &HeldLeg, message: &Message)
     requires room { length out.old.sends < max_sends }
@@ -335,7 +335,7 @@ fn report_unexpected(out: &mut Outbox, held: &HeldLeg, message: &Message)
     send(out, held.slot.line, &unexpected(&held.leg, message));
 }
 
-// Sends the STATUS that replies to STATUS ENQUIRY. It is a function of its own because it is rare.
+// Sends the STATUS that replies to STATUS ENQUIRY. A separate function, because it is rare.
 #[inline(never)]
 fn report_state(out: &mut Outbox, held: &HeldLeg)
     requires room { length out.old.sends < max_sends }

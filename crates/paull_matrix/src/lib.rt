@@ -4,7 +4,7 @@
 //! other. The matrix is legal if no slot is in a row or a column twice.
 //!
 //! - [`PaullMatrix`] stays legal at each call (`legal`). `place` and `lift` add and remove one path (`placed`,
-//!   `lifted`), `place_all` and `lift_all` those of a list of moves. `row_slot` and `column_slot` return the line at
+//!   `lifted`), `place_all` and `lift_all` the paths of a list of moves. `row_slot` and `column_slot` return the line at
 //!   the other end of a path.
 //! - `common_free`, `free_in_row` and `free_in_column` return the lowest free slot (`lowest`).
 //! - Each of the five is one lookup, which [`Steps`] counts (`looks`). Writes, and the work inside a lookup, are not
