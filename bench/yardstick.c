@@ -30,7 +30,8 @@ static void start(void) {
     memset(live.out, NO_SLOT, sizeof live.out);
     memset(live.room, NO_ROOM, sizeof live.room);
     memset(live.heard, 0xFF, sizeof live.heard);
-    images[0] = images[1] = live;
+    memset(crossed_by, NO_SLOT, sizeof crossed_by);
+    memset(read_from, NO_SLOT, sizeof read_from);
     memset(halves, IDLE, sizeof halves);
     memset(highways, IDLE, sizeof highways);
     memset(crossed, IDLE, sizeof crossed);

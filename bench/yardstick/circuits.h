@@ -20,7 +20,7 @@ static void take_out(uint32_t *slots, Slot x) { slots[x.line] &= ~(1u << x.place
 
 static void hear(Slot x, uint32_t from) {
     live.heard[x.line][x.place] = from;
-    live.changes++;
+    mark(x.line, x.place);
 }
 
 // Two slots without a circuit hear each other. Writes how many paths were moved for each way.

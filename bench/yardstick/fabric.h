@@ -1,30 +1,23 @@
-// The control memory, and the live paths.
+// The tables of the stages, and the live paths.
 
-// What a frame goes by, written at its boundary. `in` names the place that goes into an internal slot of
-// an incoming line, `cross` the incoming line that goes into a slot of an outgoing line, and `out` the
-// slot that goes to a place. `from` and `to` are the lines that have a path. `heard` is the first frame
-// in which a slot's circuit is heard, and `room` a port's room. `changes` counts all changes so far.
-typedef struct {
+// What a frame goes by. `in` names the place that goes into an internal slot of an incoming line, `cross` the incoming
+// line that goes into a slot of an outgoing line, and `out` the slot that goes to a place. `from` and `to` are the lines
+// that have a path. `heard` is the first frame in which a slot's circuit is heard, and `room` a port's room.
+static struct {
     SlotRow in[LINES], cross[LINES];
     Row out[LINES], room[BRIDGES];
     uint32_t heard[LINES][CELLS];
     Lines from, to;
-    unsigned changes;
-} Image;
+} live;
 
-static Image live, images[2];
+// The slots that a change before a frame concerns, for the next frame and the two before it, and their lines.
+enum { CHANGES = 4 };
+static uint32_t changed[CHANGES][LINES];
+static Lines changed_on[CHANGES];
 
-// Writes what there is, where anything changed.
-static void write_image(Image *now) {
-    if (now->changes == live.changes) return;
-    memcpy(now->in, live.in, lines * sizeof(SlotRow));
-    memcpy(now->cross, live.cross, lines * sizeof(SlotRow));
-    memcpy(now->out, live.out, lines * sizeof(Row));
-    memcpy(now->room, live.room, bridges * sizeof(Row));
-    memcpy(now->heard, live.heard, lines * sizeof *live.heard);
-    now->from = live.from;
-    now->to = live.to;
-    now->changes = live.changes;
+static void mark(unsigned line, unsigned place) {
+    changed[frame_number % CHANGES][line] |= 1u << place;
+    changed_on[frame_number % CHANGES] |= (Lines)1 << line;
 }
 
 // Paull's matrix: the slots that are taken on an incoming line (a row) and on an outgoing line (a
@@ -45,6 +38,7 @@ static void lay(Path p) {
     live.in[i][s] = p.from.place;
     live.cross[j][s] = i;
     live.out[j][p.to.place] = s;
+    mark(j, p.to.place);
     to_line[i][s] = j;
     to_place[j][s] = p.to.place;
     slot_of[i][p.from.place] = s;
@@ -60,6 +54,7 @@ static Path lift(unsigned i, unsigned s) {
     live.in[i][s] = NO_CELL;
     live.cross[j][s] = NO_LINE;
     live.out[j][p.to.place] = NO_SLOT;
+    mark(j, p.to.place);
     return p;
 }
 

@@ -3,16 +3,16 @@
 // In a frame one half of the speech memory is crossed and the other is filled.
 static Row halves[2][LINES];
 static SlotRow highways[LINES + 1], crossed[LINES];
-static Lines spoken_on, crossed_to; // the rows of these two that may not be idle
+static Lines sent_on[2], spoken_on, crossed_to; // the rows of these that may not be idle
 
-// What is read out: for each place its internal slot, where its circuit is heard, and the lines that have
-// one; for each port in a room where its member is read, if it is heard. All stay but in the frame of a
-// boundary that changed something and in the two frames after it.
-static Row read_from[LINES];
+// What is read out: for each place its internal slot, where its circuit is heard, and the places and lines that have one;
+// for each port in a room where its member is read, if it is heard. It follows `crossed_by`, the slots of the places when
+// the octets were crossed. A change alters it in its own frame and in the two behind that.
+static Row crossed_by[LINES], read_from[LINES];
+static uint32_t hearing[LINES];
 static Lines heard_on;
 static struct { uint8_t line, place, room, slot; int16_t heard; } members[BRIDGES * PLACES];
-static unsigned member_count, image_changes;
-static uint32_t changed_in;
+static unsigned member_count;
 
 enum { MOST = 4095 }; // the greatest magnitude
 static int16_t linear[256];
@@ -32,33 +32,39 @@ static uint8_t compress(int32_t v) {
     return (uint8_t)((v < 0 ? 0 : 0x80) | segment << 4 | interval) ^ 0x55;
 }
 
-// Which places hear what was crossed in the frame before, by the tables under which it was crossed.
-static void find_heard(const Image *now, const Image *before) {
-    heard_on = 0;
-    for (unsigned l = 0; l < lines; l++) {
-        uint8_t some = 0;
-        for (int k = 0; k < CELLS; k++) {
-            uint8_t slot = now->heard[l][k] <= frame_number ? before->out[l][k] : NO_SLOT;
-            read_from[l][k] = slot;
-            some |= slot ^ NO_SLOT;
-        }
-        heard_on |= (Lines)(some != 0) << l;
+static void find_heard_at(unsigned line, unsigned place) {
+    uint8_t slot = live.heard[line][place] <= frame_number ? crossed_by[line][place] : NO_SLOT;
+    read_from[line][place] = slot;
+    if (slot == NO_SLOT) hearing[line] &= ~(1u << place);
+    else hearing[line] |= 1u << place;
+}
+
+// Which places of these lines hear what was crossed in the frame before.
+static void find_heard(Lines some) {
+    const uint32_t *now = changed[frame_number % CHANGES];
+    const uint32_t *last = changed[(frame_number - 1) % CHANGES], *before = changed[(frame_number - 2) % CHANGES];
+    while (some) {
+        unsigned line = next_line(&some);
+        for (uint32_t left = now[line] | last[line] | before[line]; left; left &= left - 1)
+            find_heard_at(line, __builtin_ctz(left));
+        heard_on &= ~((Lines)1 << line);
+        heard_on |= (Lines)(hearing[line] != 0) << line;
     }
 }
 
-static void find_members(const Image *now, Row *filling) {
+static void find_members(Row *filling) {
     member_count = 0;
     for (unsigned b = 0; b < bridges; b++) {
         unsigned line = external + b;
         memcpy(filling[line], idle_row, sizeof(Row));
         for (int k = 0; k < PLACES; k++) {
-            if (now->room[b][k] == NO_ROOM) continue;
+            if (live.room[b][k] == NO_ROOM) continue;
             uint8_t slot = read_from[line][k];
             members[member_count].line = line;
             members[member_count].place = k;
-            members[member_count].room = now->room[b][k];
+            members[member_count].room = live.room[b][k];
             members[member_count].slot = slot;
-            members[member_count++].heard = now->heard[line][k] <= frame_number ? -1 : 0;
+            members[member_count++].heard = live.heard[line][k] <= frame_number ? -1 : 0;
         }
     }
 }
@@ -77,31 +83,51 @@ static void mix(Row *filling) {
     }
 }
 
-// The first two stages: into the internal slots of each incoming line, and across to the outgoing ones.
-// A line without a path is idle, and is written once.
-static inline void cross_slots(const Image *now, Row *filled, const unsigned slots) {
-    for (Lines some = spoken_on & ~now->from; some;) memcpy(highways[next_line(&some)], idle_row, sizeof(SlotRow));
-    for (Lines some = now->from; some;) {
+// The first stage: into the internal slots of each incoming line. A line that sends nothing is written once.
+static inline void fill_highways(Row *filled, Lines sent, const unsigned slots) {
+    Lines speaking = live.from & sent;
+    for (Lines some = spoken_on & ~speaking; some;) memcpy(highways[next_line(&some)], idle_row, sizeof(SlotRow));
+    for (Lines some = speaking; some;) {
         unsigned i = next_line(&some);
-        const uint8_t *restrict from = filled[i], *restrict in = now->in[i];
+        const uint8_t *restrict from = filled[i], *restrict in = live.in[i];
         uint8_t *restrict to = highways[i];
         for (unsigned s = 0; s < slots; s++) to[s] = from[in[s]];
     }
-    spoken_on = now->from;
-    for (Lines some = crossed_to & ~now->to; some;) memcpy(crossed[next_line(&some)], idle_row, sizeof(SlotRow));
-    for (Lines some = now->to; some;) {
+    spoken_on = speaking;
+}
+
+// The second stage: across to the outgoing lines.
+static inline void cross_all(const unsigned slots) {
+    for (Lines some = crossed_to & ~live.to; some;) memcpy(crossed[next_line(&some)], idle_row, sizeof(SlotRow));
+    for (Lines some = live.to; some;) {
         unsigned j = next_line(&some);
-        const uint8_t *restrict by = now->cross[j];
+        const uint8_t *restrict by = live.cross[j];
         uint8_t *restrict to = crossed[j];
         for (unsigned s = 0; s < slots; s++) to[s] = highways[by[s]][s];
     }
-    crossed_to = now->to;
+    crossed_to = live.to;
 }
 
-// The same, by loops of a fixed length.
-static void cross(const Image *now, Row *filled) {
-    if (slots == PLACES) cross_slots(now, filled, PLACES);
-    else cross_slots(now, filled, STRICT_SLOTS);
+// The same, path by path, for few lines that send.
+static void cross_few(void) {
+    for (Lines some = crossed_to; some;) memcpy(crossed[next_line(&some)], idle_row, sizeof(SlotRow));
+    crossed_to = 0;
+    for (Lines some = spoken_on; some;) {
+        unsigned i = next_line(&some);
+        for (uint64_t left = row[i]; left; left &= left - 1) {
+            unsigned s = __builtin_ctzll(left), j = to_line[i][s];
+            crossed[j][s] = highways[i][s];
+            crossed_to |= (Lines)1 << j;
+        }
+    }
+}
+
+static void cross(Row *filled, Lines sent) {
+    if (slots == PLACES) fill_highways(filled, sent, PLACES); // by a loop of a fixed length
+    else fill_highways(filled, sent, STRICT_SLOTS);
+    if (2 * __builtin_popcountll(spoken_on) <= __builtin_popcountll(live.to)) cross_few();
+    else if (slots == PLACES) cross_all(PLACES);
+    else cross_all(STRICT_SLOTS);
 }
 
 // The octets of the tones that are heard on a line.
@@ -116,7 +142,7 @@ static void put_tones(unsigned line, uint8_t *heard) {
 
 // What each external line sends, where it isn't idle.
 static void send(void) {
-    for (Lines some = (heard_on | toned_on) & below(external); some;) {
+    for (Lines some = ((heard_on & crossed_to) | toned_on) & below(external); some;) {
         unsigned l = next_line(&some);
         const uint8_t *restrict from = crossed[l], *restrict by = read_from[l];
         Row heard;
@@ -130,26 +156,48 @@ static void send(void) {
     }
 }
 
+// What is read out, and by which slots it was crossed, follow the changes.
+static void follow_changes(Row *filling) {
+    unsigned now = frame_number % CHANGES;
+    Lines some = changed_on[now] | changed_on[(frame_number - 1) % CHANGES] | changed_on[(frame_number - 2) % CHANGES];
+    if (!some) return;
+    find_heard(some);
+    if (some >> external) find_members(filling);
+    for (some = changed_on[now]; some;) {
+        unsigned line = next_line(&some);
+        memcpy(crossed_by[line], live.out[line], sizeof(Row));
+    }
+}
+
+// Forgets the oldest changes, in whose place those come that the next frame is the first to see.
+static void forget_changes(void) {
+    unsigned next = (frame_number + 1) % CHANGES;
+    while (changed_on[next]) changed[next][next_line(&changed_on[next])] = 0;
+}
+
+// Fills a half of the speech memory with the rows of a frame. Ports that have a member are never idle.
+static void fill(Row *filling, Lines *sent, const Event *e) {
+    Lines given = member_count ? below(lines) & ~below(external) : 0;
+    for (const Given *from = rows + e->first, *end = from + e->length; from < end; from++) {
+        memcpy(filling[from->line], from->octets, sizeof(Row));
+        given |= (Lines)1 << from->line;
+    }
+    for (Lines idle = *sent & ~given; idle;) memcpy(filling[next_line(&idle)], idle_row, sizeof(Row));
+    *sent = given;
+}
+
 // Answers where in the report the octets of the frame begin.
 static size_t frame(const Event *e) {
-    Image *now = &images[frame_number & 1], *before = &images[~frame_number & 1];
-    Row *filling = halves[frame_number & 1], *filled = halves[~frame_number & 1];
+    unsigned now = frame_number & 1;
     put(" frame ");
     put_number(frame_number);
     size_t octets = out_len;
-    write_image(now);
-    if (image_changes != now->changes) {
-        image_changes = now->changes;
-        changed_in = frame_number;
-    }
-    if (frame_number - changed_in <= 2) {
-        find_heard(now, before);
-        find_members(now, filling);
-    }
+    follow_changes(halves[now]);
     send();
-    mix(filling);
-    cross(now, filled);
-    memcpy(filling, rows[e->first], external * sizeof(Row));
+    if (member_count) mix(halves[now]);
+    cross(halves[!now], sent_on[!now]);
+    fill(halves[now], &sent_on[now], e);
+    forget_changes();
     frame_number++;
     return octets;
 }

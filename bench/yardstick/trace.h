@@ -2,13 +2,15 @@
 
 typedef enum { NAIL, SEAT, FREE, FRAME, SIGNAL, UP, DOWN, RENEW } Kind;
 
-// A frame has a row for each external line from `first` on; a message has `length` octets from there on.
+// A frame has `length` rows from `first` on; a message has as many octets from there on.
 typedef struct {
     uint8_t kind, room;
     Slot x, y;
     uint16_t length;
-    size_t first;
+    uint32_t first;
 } Event;
+
+typedef struct { Row octets; uint8_t line; } Given; // a row of a frame, which has none for a line that is idle
 
 enum { MOST_WORDS = EXTERNAL + 4 }; // one more than a number's line can have, so that too many are seen
 typedef struct { const uint8_t *at, *end; } Word;
@@ -23,7 +25,7 @@ static uint32_t timers[TIMERS] = { 1440000, 120000, 32000, 240000, 32000, 48000,
 static Tone tones[2];
 static Event events[MOST_EVENTS];
 static uint32_t changes[MOST_CHANGES + 1]; // of meters: how many events come before each, and NEVER behind the last
-static Row *rows;
+static Given *rows;
 static uint8_t *messages;
 static size_t event_count, change_count, row_count, row_room, message_count, message_room;
 
@@ -124,7 +126,7 @@ static unsigned read_hex(Word word, uint8_t *octets, size_t most) {
 }
 
 // Room for the rows of one more frame.
-static Row *new_rows(void) {
+static Given *new_rows(void) {
     if (row_count + external > row_room) {
         row_room = row_room ? 2 * row_room : 1 << 13;
         rows = realloc(rows, row_room * sizeof *rows);
@@ -133,18 +135,18 @@ static Row *new_rows(void) {
     return rows + row_count;
 }
 
-// A frame whose rows of the given lines were read.
-static void append_frame(Row *new, Lines given) {
-    for (Lines idle = below(external) & ~given; idle;) memcpy(new[next_line(&idle)], idle_row, sizeof(Row));
-    append((Event){ .kind = FRAME, .first = row_count });
-    row_count += external;
+// A frame whose rows were read.
+static void append_frame(unsigned count) {
+    append((Event){ .kind = FRAME, .first = row_count, .length = count });
+    row_count += count;
 }
 
 // Reads a line of a frame with a single space before each part and no fault, and answers where the next
 // line begins. Any other is read word by word.
 static const uint8_t *read_plain_frame(const uint8_t *p, const uint8_t *end) {
-    Row *new = new_rows();
+    Given *new = new_rows();
     Lines given = 0;
+    unsigned count = 0;
     for (p++; p < end && *p == ' '; p += 2 * PLACES) {
         if (end - p < 2 * PLACES + 4) return NULL;
         unsigned line = p[1] - '0', second = p[2] - '0';
@@ -153,27 +155,29 @@ static const uint8_t *read_plain_frame(const uint8_t *p, const uint8_t *end) {
             line = line * 10 + second;
             p++;
         }
-        if (*p++ != ':' || line >= external || given >> line & 1 || !read_octets(new[line], p)) return NULL;
+        if (*p++ != ':' || line >= external || given >> line & 1 || !read_octets(new[count].octets, p)) return NULL;
+        new[count++].line = line;
         given |= (Lines)1 << line;
     }
     if (p < end && *p++ != '\n') return NULL;
-    append_frame(new, given);
+    append_frame(count);
     return p;
 }
 
-static void read_part(Word word, Row *new, Lines *given) {
+static void read_part(Word word, Given *new, Lines *given) {
     int line = number(&word, ':');
     if (line < 0 || line >= (int)external || *given >> line & 1) refuse("slot");
-    memcpy(new[line], idle_row, sizeof(Row));
-    if (read_hex(word, new[line], PLACES) != PLACES) refuse("length");
+    memcpy(new->octets, idle_row, sizeof(Row));
+    if (read_hex(word, new->octets, PLACES) != PLACES) refuse("length");
+    new->line = line;
     *given |= (Lines)1 << line;
 }
 
 static void read_frame(Word *words, size_t count) {
-    Row *new = new_rows();
+    Given *new = new_rows();
     Lines given = 0;
-    for (size_t i = 1; i < count; i++) read_part(words[i], new, &given);
-    append_frame(new, given);
+    for (size_t i = 1; i < count; i++) read_part(words[i], new + i - 1, &given);
+    append_frame(count - 1);
 }
 
 // The lines of a number, each once.
