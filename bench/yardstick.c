@@ -36,6 +36,7 @@ static void start(void) {
     memset(highways, IDLE, sizeof highways);
     memset(crossed, IDLE, sizeof crossed);
     memset(none_before, 0xFF, sizeof none_before);
+    make_prefixes();
     if (!bridges) return;
     for (int octet = 0; octet < 256; octet++) linear[octet] = expand(octet);
     for (int v = -MOST; v <= MOST; v++) codes[v + MOST] = compress(v);
@@ -68,9 +69,11 @@ int main(int count, char **words) {
     read_trace();
     start();
     change_at(0);
+    Counter number = { "1", 1 }; // of the event
     for (size_t i = 0; i < event_count; i++) {
         const Event *e = &events[i];
-        put_number(i + 1);
+        put_counter(&number);
+        count_up(&number);
         switch (e->kind) {
         case NAIL: nail(e->x, e->y); break;
         case SEAT: seat(e->x, e->room); break;

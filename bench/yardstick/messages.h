@@ -101,9 +101,8 @@ static int is_known(uint8_t type) {
 }
 
 static void put_message(unsigned line, unsigned flag, uint16_t reference, Type type) {
-    put(" ");
-    put_number(line);
-    put(":0802");
+    put_prefix(line);
+    put("0802");
     put_few((uint8_t[]){ flag << 7 | reference >> 8, reference, type }, 3);
 }
 

@@ -27,11 +27,60 @@ static inline void put_text(const char *text, size_t length) {
     out_len += length;
 }
 
-static void put_number(unsigned n) {
-    char digits[10];
-    int len = 0;
-    do digits[len++] = '0' + n % 10; while (n /= 10);
-    while (len) out[out_len++] = digits[--len];
+// Two digits for each number below 100.
+static const char pairs[] =
+    "0001020304050607080910111213141516171819"
+    "2021222324252627282930313233343536373839"
+    "4041424344454647484950515253545556575859"
+    "6061626364656667686970717273747576777879"
+    "8081828384858687888990919293949596979899";
+
+static __attribute__((noinline)) void put_pairs(unsigned n) {
+    if (n >= 1000) put_pairs(n / 100);
+    else if (n >= 100) out[out_len++] = '0' + n / 100;
+    put_text(pairs + 2 * (n % 100), 2);
+}
+
+static inline void put_number(unsigned n) {
+    if (n < 10) out[out_len++] = '0' + n;
+    else put_pairs(n);
+}
+
+// A number that goes up by one at a time, by its digits.
+typedef struct { char digits[8]; unsigned length; } Counter;
+
+static void count_up(Counter *c) {
+    unsigned k = c->length;
+    while (k && c->digits[k - 1] == '9') c->digits[--k] = '0';
+    if (!k) {
+        c->digits[c->length++] = '0';
+        c->digits[k++] = '0';
+    }
+    c->digits[k - 1]++;
+}
+
+static inline void put_counter(const Counter *c) {
+    memcpy(out + out_len, c->digits, sizeof c->digits);
+    out_len += c->length;
+}
+
+// A space, a line's number and a colon.
+static struct { char text[4]; unsigned length; } prefixes[EXTERNAL];
+
+static void make_prefixes(void) {
+    for (unsigned line = 0; line < EXTERNAL; line++) {
+        char *text = prefixes[line].text;
+        *text++ = ' ';
+        if (line >= 10) *text++ = '0' + line / 10;
+        *text++ = '0' + line % 10;
+        *text++ = ':';
+        prefixes[line].length = text - prefixes[line].text;
+    }
+}
+
+static inline void put_prefix(unsigned line) {
+    memcpy(out + out_len, prefixes[line].text, sizeof prefixes[line].text);
+    out_len += prefixes[line].length;
 }
 
 static void put_numbers(unsigned a, unsigned b) {

@@ -149,9 +149,7 @@ static void send(void) {
         for (int k = 0; k < CELLS; k++) heard[k] = from[by[k]];
         if (__builtin_expect(toned[l] != 0, 0)) put_tones(l, heard); // in most traces none rings
         if (!memcmp(heard, idle_row, sizeof heard)) continue;
-        put(" ");
-        put_number(l);
-        put(":");
+        put_prefix(l);
         put_octets(heard);
     }
 }
@@ -186,11 +184,13 @@ static void fill(Row *filling, Lines *sent, const Event *e) {
     *sent = given;
 }
 
+static Counter frame_digits = { "0", 1 }; // of the next frame
+
 // Answers where in the report the octets of the frame begin.
 static size_t frame(const Event *e) {
     unsigned now = frame_number & 1;
     put(" frame ");
-    put_number(frame_number);
+    put_counter(&frame_digits);
     size_t octets = out_len;
     follow_changes(halves[now]);
     send();
@@ -199,5 +199,6 @@ static size_t frame(const Event *e) {
     fill(halves[now], &sent_on[now], e);
     forget_changes();
     frame_number++;
+    count_up(&frame_digits);
     return octets;
 }
