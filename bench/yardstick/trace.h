@@ -141,27 +141,56 @@ static void append_frame(unsigned count) {
     row_count += count;
 }
 
-// Reads a line of a frame with a single space before each part and no fault, and answers where the next
-// line begins. Any other is read word by word.
-static const uint8_t *read_plain_frame(const uint8_t *p, const uint8_t *end) {
+// What follows up to read_part(), and the two functions like it, read a line with single spaces and no fault, and answer
+// where the next line begins. Any other line is NULL, and read word by word. Zeros behind the trace end each of them.
+
+// A number of one or two digits without a leading zero; too great where there is none.
+static inline const uint8_t *read_plain_number(const uint8_t *p, unsigned *n) {
+    unsigned first = p[0] - '0', second = p[1] - '0';
+    int two = first - 1 < 9 && second < 10;
+    *n = two ? first * 10 + second : first;
+    return p + 1 + two;
+}
+
+static const uint8_t *read_plain_frame(const uint8_t *p) {
     Given *new = new_rows();
     Lines given = 0;
-    unsigned count = 0;
-    for (p++; p < end && *p == ' '; p += 2 * PLACES) {
-        if (end - p < 2 * PLACES + 4) return NULL;
-        unsigned line = p[1] - '0', second = p[2] - '0';
-        p += 2;
-        if (line && line < 10 && second < 10) {
-            line = line * 10 + second;
-            p++;
-        }
+    unsigned count = 0, line;
+    for (p++; *p == ' '; p += 2 * PLACES) {
+        p = read_plain_number(p + 1, &line);
         if (*p++ != ':' || line >= external || given >> line & 1 || !read_octets(new[count].octets, p)) return NULL;
         new[count++].line = line;
         given |= (Lines)1 << line;
     }
-    if (p < end && *p++ != '\n') return NULL;
+    if (*p != '\n') return NULL;
     append_frame(count);
+    return p + 1;
+}
+
+static inline const uint8_t *read_plain_slot(const uint8_t *p, Slot *x) {
+    unsigned line, channel;
+    p = read_plain_number(p, &line);
+    if (line >= external || *p != '/') return NULL;
+    p = read_plain_number(p + 1, &channel);
+    if (channel - 1 > 30 || channel == 16) return NULL;
+    *x = (Slot){ line, channel < 16 ? channel - 1 : channel - 2 };
     return p;
+}
+
+static const uint8_t *read_plain_nail(const uint8_t *p) {
+    Event e = { .kind = NAIL };
+    if (memcmp(p, "nail ", 5) || !(p = read_plain_slot(p + 5, &e.x)) || *p != ' ') return NULL;
+    if (!(p = read_plain_slot(p + 1, &e.y)) || *p != '\n') return NULL;
+    if (e.x.line == e.y.line && e.x.place == e.y.place) return NULL;
+    append(e);
+    return p + 1;
+}
+
+static const uint8_t *read_plain_free(const uint8_t *p) {
+    Event e = { .kind = FREE };
+    if (memcmp(p, "free ", 5) || !(p = read_plain_slot(p + 5, &e.x)) || *p != '\n') return NULL;
+    append(e);
+    return p + 1;
 }
 
 static void read_part(Word word, Given *new, Lines *given) {
@@ -246,27 +275,31 @@ static void append_message(unsigned line, unsigned length) {
     message_count += length;
 }
 
-// Reads the line of a message with a single space before each word and no fault, and answers where the
-// next line begins. Any other is read word by word.
-static const uint8_t *read_plain_message(const uint8_t *p, const uint8_t *end) {
+static const uint8_t *read_plain_message(const uint8_t *p) {
     uint8_t *octets = new_octets();
-    unsigned length = 0;
-    if (end - p < 4 || p[1] != ' ') return NULL;
-    unsigned line = p[2] - '0', second = p[3] - '0';
-    p += 3;
-    if (line && line < 10 && second < 10) {
-        line = line * 10 + second;
-        p++;
-    }
-    if (line >= external || p == end || *p++ != ' ') return NULL;
-    for (; end - p > 1 && length < MESSAGE; p += 2) {
+    unsigned length = 0, line;
+    if (p[1] != ' ') return NULL;
+    p = read_plain_number(p + 2, &line);
+    if (line >= external || *p++ != ' ') return NULL;
+    for (; length < MESSAGE; p += 2) {
         unsigned high = digit_value(p[0]), low = digit_value(p[1]);
         if ((high | low) >> 4) break;
         octets[length++] = high << 4 | low;
     }
-    if (!length || (p < end && *p++ != '\n')) return NULL;
+    if (!length || *p != '\n') return NULL;
     append_message(line, length);
-    return p;
+    return p + 1;
+}
+
+static const uint8_t *read_plain(const uint8_t *p) {
+    switch (*p) {
+    case 's': return memcmp(p, "sync\n", 5) ? NULL : p + 5;
+    case 'F': return read_plain_frame(p);
+    case 'M': return read_plain_message(p);
+    case 'n': return read_plain_nail(p);
+    case 'f': return read_plain_free(p);
+    default: return NULL;
+    }
 }
 
 static void read_message_line(Word *words, size_t count) {
@@ -336,18 +369,25 @@ static const uint8_t *read_line(const uint8_t *p, const uint8_t *end) {
     return p + (p < end);
 }
 
-static void read_trace(void) {
-    size_t len = 0, room = 1 << 20;
-    uint8_t *bytes = malloc(room);
-    for (ssize_t n; bytes && (n = read(0, bytes + len, room - len)) > 0;)
-        if ((len += n) == room) bytes = realloc(bytes, room *= 2);
+// The octets of standard input, with zeros behind them.
+static uint8_t *read_input(size_t *len) {
+    size_t room = 1 << 20;
+    uint8_t *bytes = malloc(room + PADDING);
+    *len = 0;
+    for (ssize_t n; bytes && (n = read(0, bytes + *len, room - *len)) > 0;)
+        if ((*len += n) == room) bytes = realloc(bytes, (room *= 2) + PADDING);
     if (!bytes) exit(5);
+    memset(bytes + *len, 0, PADDING);
+    return bytes;
+}
+
+static void read_trace(void) {
+    size_t len;
+    uint8_t *bytes = read_input(&len);
     if (len > MOST_BYTES) refuse("limit");
     for (const uint8_t *p = bytes, *end = bytes + len; p < end;) {
         line_number++;
-        const uint8_t *next = NULL;
-        if (external && *p == 'F') next = read_plain_frame(p, end);
-        else if (external && *p == 'M') next = read_plain_message(p, end);
+        const uint8_t *next = external ? read_plain(p) : NULL;
         p = next ? next : read_line(p, end);
     }
     line_number++;
