@@ -25,11 +25,14 @@
 #include "yardstick/expiries.h"
 
 static void start(void) {
-    memset(live.in, NO_CELL, sizeof live.in);
-    memset(live.cross, NO_LINE, sizeof live.cross);
-    memset(live.out, NO_SLOT, sizeof live.out);
-    memset(live.room, NO_ROOM, sizeof live.room);
-    memset(live.heard, 0xFF, sizeof live.heard);
+    for (unsigned k = 0; k < 2 * LINES; k++) {
+        End *e = &ends[k / LINES][k % LINES];
+        memset(e->place, NO_CELL, sizeof e->place);
+        memset(e->other, NO_LINE, sizeof e->other);
+        memset(e->slot, NO_SLOT, sizeof e->slot);
+    }
+    memset(heard_from, 0xFF, sizeof heard_from);
+    memset(room_at, NO_ROOM, sizeof room_at);
     memset(crossed_by, NO_SLOT, sizeof crossed_by);
     memset(read_from, NO_SLOT, sizeof read_from);
     memset(halves, IDLE, sizeof halves);

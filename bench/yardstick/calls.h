@@ -139,8 +139,8 @@ static void end_call(Slot x, Cause cause) {
     Slot port = circuit(x)->other;
     note(&(Call){
         .caller = x, .called = l->other, .to_room = l->peer == ROOM, .answered = l->state == ACTIVE, .cause = cause,
-        .room = l->peer == ROOM ? live.room[port.line - external][port.place] : NO_ROOM,
-        .from = l->state == ACTIVE ? live.heard[x.line][x.place] - 2 : frame_number, .to = frame_number,
+        .room = l->peer == ROOM ? room_at[port.line - external][port.place] : NO_ROOM,
+        .from = l->state == ACTIVE ? heard_from[x.line][x.place] - 2 : frame_number, .to = frame_number,
     });
 }
 

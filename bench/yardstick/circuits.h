@@ -19,8 +19,8 @@ static void add(uint32_t *slots, Slot x) { slots[x.line] |= 1u << x.place; }
 static void take_out(uint32_t *slots, Slot x) { slots[x.line] &= ~(1u << x.place); }
 
 static void hear(Slot x, uint32_t from) {
-    live.heard[x.line][x.place] = from;
-    mark(x.line, x.place);
+    heard_from[x.line][x.place] = from;
+    mark(x.line, 1u << x.place);
 }
 
 // Two slots without a circuit hear each other. Writes how many paths were moved for each way.
@@ -45,7 +45,7 @@ static void sit(Slot x, uint8_t room) {
     while (ports[b] == ALL_SLOTS) b++;
     Slot port = { external + b, __builtin_ctz(~ports[b]) };
     ports[b] |= 1u << port.place;
-    live.room[b][port.place] = room;
+    room_at[b][port.place] = room;
     *circuit(x) = (Circuit){ MEMBER, port };
     hear(x, frame_number + 2);
     hear(port, frame_number + 2);
@@ -80,7 +80,7 @@ static void clear(Slot x) {
             circuit(c.other)->kind = NOTHING;
         } else {
             ports[c.other.line - external] &= ~(1u << c.other.place);
-            live.room[c.other.line - external][c.other.place] = NO_ROOM;
+            room_at[c.other.line - external][c.other.place] = NO_ROOM;
         }
     }
 }

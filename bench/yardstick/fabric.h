@@ -1,77 +1,89 @@
-// The tables of the stages, and the live paths.
+// The live paths, by which a frame goes.
 
-// What a frame goes by. `in` names the place that goes into an internal slot of an incoming line, `cross` the incoming
-// line that goes into a slot of an outgoing line, and `out` the slot that goes to a place. `from` and `to` are the lines
-// that have a path. `heard` is the first frame in which a slot's circuit is heard, and `room` a port's room.
-static struct {
-    SlotRow in[LINES], cross[LINES];
-    Row out[LINES], room[BRIDGES];
-    uint32_t heard[LINES][CELLS];
-    Lines from, to;
-} live;
+// The paths at a line that is one end of them. By its internal slot, a path's place here and the line at its other end;
+// by its place, its slot; and the slots that are taken, which are a row of Paull's matrix at an incoming line, and a
+// column at an outgoing one. A slot that is free has NO_CELL and NO_LINE, and a place without a path NO_SLOT.
+typedef struct {
+    SlotRow place, other;
+    Row slot;
+    uint64_t taken;
+} End;
+
+enum { INCOMING, OUTGOING };
+static End ends[2][LINES], *const incoming = ends[INCOMING], *const outgoing = ends[OUTGOING];
+static Lines from_on, to_on; // the lines that have a path
+
+// The first frame in which the circuit of each slot is heard, and the room of each port.
+static uint32_t heard_from[LINES][CELLS];
+static Row room_at[BRIDGES];
 
 // The slots that a change before a frame concerns, for the next frame and the two before it, and their lines.
 enum { CHANGES = 4 };
 static uint32_t changed[CHANGES][LINES];
 static Lines changed_on[CHANGES];
 
-static void mark(unsigned line, unsigned place) {
-    changed[frame_number % CHANGES][line] |= 1u << place;
+static void mark(unsigned line, uint32_t places) {
+    changed[frame_number % CHANGES][line] |= places;
     changed_on[frame_number % CHANGES] |= (Lines)1 << line;
 }
 
-// Paull's matrix: the slots that are taken on an incoming line (a row) and on an outgoing line (a
-// column); and what `live` doesn't tell of a path: by the incoming line its outgoing one, by the outgoing
-// line its place there, and by its first place its slot.
-static uint64_t row[LINES], column[LINES];
-static SlotRow to_line[LINES], to_place[LINES];
-static Row slot_of[LINES];
-
-typedef struct { Slot from, to; unsigned slot; } Path;
-
-static void lay(Path p) {
-    unsigned i = p.from.line, j = p.to.line, s = p.slot;
-    row[i] |= 1ull << s;
-    column[j] |= 1ull << s;
-    live.from |= (Lines)1 << i;
-    live.to |= (Lines)1 << j;
-    live.in[i][s] = p.from.place;
-    live.cross[j][s] = i;
-    live.out[j][p.to.place] = s;
-    mark(j, p.to.place);
-    to_line[i][s] = j;
-    to_place[j][s] = p.to.place;
-    slot_of[i][p.from.place] = s;
+static void add_end(End *e, unsigned slot, unsigned place, unsigned other) {
+    e->taken |= 1ull << slot;
+    e->place[slot] = place;
+    e->other[slot] = other;
+    e->slot[place] = slot;
 }
 
-static Path lift(unsigned i, unsigned s) {
-    unsigned j = to_line[i][s];
-    Path p = { { i, live.in[i][s] }, { j, to_place[j][s] }, s };
-    row[i] &= ~(1ull << s);
-    column[j] &= ~(1ull << s);
-    if (!row[i]) live.from &= ~((Lines)1 << i);
-    if (!column[j]) live.to &= ~((Lines)1 << j);
-    live.in[i][s] = NO_CELL;
-    live.cross[j][s] = NO_LINE;
-    live.out[j][p.to.place] = NO_SLOT;
-    mark(j, p.to.place);
-    return p;
+static void remove_end(End *e, unsigned slot) {
+    e->taken &= ~(1ull << slot);
+    e->slot[e->place[slot]] = NO_SLOT;
+    e->place[slot] = NO_CELL;
+    e->other[slot] = NO_LINE;
 }
 
-// A live path: its incoming line and its slot.
-typedef struct { unsigned char line, slot; } Place;
+static void lay(Slot from, Slot to, unsigned slot) {
+    add_end(&incoming[from.line], slot, from.place, to.line);
+    add_end(&outgoing[to.line], slot, to.place, from.line);
+    from_on |= (Lines)1 << from.line;
+    to_on |= (Lines)1 << to.line;
+    mark(to.line, 1u << to.place);
+}
 
-// Lists the chain of paths that starts with the one to outgoing line j in a and goes on in b, a, .. by
-// turns, over incoming and outgoing lines, behind the len paths that are listed. Answers how many then are.
-static unsigned list_chain(Place *chain, unsigned len, unsigned j, unsigned a, unsigned b) {
-    while (column[j] >> a & 1) {
-        unsigned i = live.cross[j][a];
-        chain[len++] = (Place){ i, a };
-        if (!(row[i] >> b & 1)) break;
-        j = to_line[i][b];
-        chain[len++] = (Place){ i, b };
-    }
-    return len;
+// Takes away the path from a slot.
+static void disconnect(Slot from) {
+    unsigned i = from.line, slot = incoming[i].slot[from.place], j = incoming[i].other[slot];
+    mark(j, 1u << outgoing[j].place[slot]);
+    remove_end(&incoming[i], slot);
+    remove_end(&outgoing[j], slot);
+    if (!incoming[i].taken) from_on &= ~((Lines)1 << i);
+    if (!outgoing[j].taken) to_on &= ~((Lines)1 << j);
+}
+
+// A chain of paths, by the lines that it leads to from the first one on, which is an end of it. It leaves an outgoing line
+// in slot a and an incoming one in slot b.
+typedef struct { unsigned first, paths, line[2 * LINES]; } Chain; // `first` is which end
+
+// Goes on by a path, if there is one; answers whether.
+static inline int walk(Chain *c, unsigned a, unsigned b) {
+    unsigned which = c->first ^ (c->paths & 1), slot = which == OUTGOING ? a : b;
+    const End *e = &ends[which][c->line[c->paths]];
+    if (!(e->taken >> slot & 1)) return 0;
+    c->line[++c->paths] = e->other[slot];
+    return 1;
+}
+
+// What is in slot a comes into slot b, and the other way round; answers which places it has.
+static inline uint32_t swap_slots(End *e, unsigned a, unsigned b) {
+    uint8_t place_a = e->place[a], place_b = e->place[b], other = e->other[a];
+    uint64_t differ = (e->taken >> a ^ e->taken >> b) & 1;
+    e->taken ^= differ << a | differ << b;
+    e->other[a] = e->other[b];
+    e->other[b] = other;
+    e->place[a] = place_b;
+    e->place[b] = place_a;
+    e->slot[place_a] = b; // also for NO_CELL, which counts for nothing
+    e->slot[place_b] = a;
+    return 1u << place_a | 1u << place_b;
 }
 
 // Makes room for a path from line i, which leaves a free, to line j, which leaves b free, where no slot is
@@ -79,30 +91,27 @@ static unsigned list_chain(Place *chain, unsigned len, unsigned j, unsigned a, u
 // which starts with the path from line i in b, where it is shorter, and frees b. Answers the freed slot, and
 // how many paths moved.
 static unsigned exchange(unsigned i, unsigned j, unsigned a, unsigned b, unsigned *moved) {
-    Place to[2 * LINES], from[2 * LINES] = { { i, b } }, *chain = to;
-    unsigned len = list_chain(to, 0, j, a, b), other = list_chain(from, 1, to_line[i][b], a, b), freed = a;
-    if (other < len) chain = from, len = other, freed = b;
-    Path lifted[2 * LINES];
-    for (unsigned k = 0; k < len; k++) lifted[k] = lift(chain[k].line, chain[k].slot);
-    for (unsigned k = 0; k < len; k++) {
-        lifted[k].slot ^= a ^ b;
-        lay(lifted[k]);
+    Chain to, from;
+    to.first = OUTGOING, to.paths = 0, to.line[0] = j;
+    from.first = INCOMING, from.paths = 0, from.line[0] = i;
+    while (walk(&to, a, b) && walk(&from, a, b)) {}
+    const Chain *chain = from.paths < to.paths ? &from : &to;
+    for (unsigned k = 0; k <= chain->paths; k++) {
+        unsigned which = chain->first ^ (k & 1), line = chain->line[k];
+        uint32_t places = swap_slots(&ends[which][line], a, b);
+        if (which == OUTGOING) mark(line, places);
     }
-    *moved = len;
-    return freed;
+    *moved = chain->paths;
+    return chain == &to ? a : b;
 }
 
 // Lays a path, and answers how many were moved for it.
 static unsigned connect(Slot from, Slot to) {
-    uint64_t common = below(slots) & ~(row[from.line] | column[to.line]);
+    uint64_t taken_from = incoming[from.line].taken, taken_to = outgoing[to.line].taken;
+    uint64_t common = below(slots) & ~(taken_from | taken_to);
     unsigned moved = 0, slot;
-    if (common) {
-        slot = __builtin_ctzll(common);
-    } else {
-        slot = exchange(from.line, to.line, __builtin_ctzll(~row[from.line]), __builtin_ctzll(~column[to.line]), &moved);
-    }
-    lay((Path){ from, to, slot });
+    if (common) slot = __builtin_ctzll(common);
+    else slot = exchange(from.line, to.line, __builtin_ctzll(~taken_from), __builtin_ctzll(~taken_to), &moved);
+    lay(from, to, slot);
     return moved;
 }
-
-static void disconnect(Slot from) { lift(from.line, slot_of[from.line][from.place]); }

@@ -33,7 +33,7 @@ static uint8_t compress(int32_t v) {
 }
 
 static void find_heard_at(unsigned line, unsigned place) {
-    uint8_t slot = live.heard[line][place] <= frame_number ? crossed_by[line][place] : NO_SLOT;
+    uint8_t slot = heard_from[line][place] <= frame_number ? crossed_by[line][place] : NO_SLOT;
     read_from[line][place] = slot;
     if (slot == NO_SLOT) hearing[line] &= ~(1u << place);
     else hearing[line] |= 1u << place;
@@ -58,13 +58,13 @@ static void find_members(Row *filling) {
         unsigned line = external + b;
         memcpy(filling[line], idle_row, sizeof(Row));
         for (int k = 0; k < PLACES; k++) {
-            if (live.room[b][k] == NO_ROOM) continue;
+            if (room_at[b][k] == NO_ROOM) continue;
             uint8_t slot = read_from[line][k];
             members[member_count].line = line;
             members[member_count].place = k;
-            members[member_count].room = live.room[b][k];
+            members[member_count].room = room_at[b][k];
             members[member_count].slot = slot;
-            members[member_count++].heard = live.heard[line][k] <= frame_number ? -1 : 0;
+            members[member_count++].heard = heard_from[line][k] <= frame_number ? -1 : 0;
         }
     }
 }
@@ -85,11 +85,11 @@ static void mix(Row *filling) {
 
 // The first stage: into the internal slots of each incoming line. A line that sends nothing is written once.
 static inline void fill_highways(Row *filled, Lines sent, const unsigned slots) {
-    Lines speaking = live.from & sent;
+    Lines speaking = from_on & sent;
     for (Lines some = spoken_on & ~speaking; some;) memcpy(highways[next_line(&some)], idle_row, sizeof(SlotRow));
     for (Lines some = speaking; some;) {
         unsigned i = next_line(&some);
-        const uint8_t *restrict from = filled[i], *restrict in = live.in[i];
+        const uint8_t *restrict from = filled[i], *restrict in = incoming[i].place;
         uint8_t *restrict to = highways[i];
         for (unsigned s = 0; s < slots; s++) to[s] = from[in[s]];
     }
@@ -98,14 +98,14 @@ static inline void fill_highways(Row *filled, Lines sent, const unsigned slots) 
 
 // The second stage: across to the outgoing lines.
 static inline void cross_all(const unsigned slots) {
-    for (Lines some = crossed_to & ~live.to; some;) memcpy(crossed[next_line(&some)], idle_row, sizeof(SlotRow));
-    for (Lines some = live.to; some;) {
+    for (Lines some = crossed_to & ~to_on; some;) memcpy(crossed[next_line(&some)], idle_row, sizeof(SlotRow));
+    for (Lines some = to_on; some;) {
         unsigned j = next_line(&some);
-        const uint8_t *restrict by = live.cross[j];
+        const uint8_t *restrict by = outgoing[j].other;
         uint8_t *restrict to = crossed[j];
         for (unsigned s = 0; s < slots; s++) to[s] = highways[by[s]][s];
     }
-    crossed_to = live.to;
+    crossed_to = to_on;
 }
 
 // The same, path by path, for few lines that send.
@@ -114,8 +114,8 @@ static void cross_few(void) {
     crossed_to = 0;
     for (Lines some = spoken_on; some;) {
         unsigned i = next_line(&some);
-        for (uint64_t left = row[i]; left; left &= left - 1) {
-            unsigned s = __builtin_ctzll(left), j = to_line[i][s];
+        for (uint64_t left = incoming[i].taken; left; left &= left - 1) {
+            unsigned s = __builtin_ctzll(left), j = incoming[i].other[s];
             crossed[j][s] = highways[i][s];
             crossed_to |= (Lines)1 << j;
         }
@@ -125,7 +125,7 @@ static void cross_few(void) {
 static void cross(Row *filled, Lines sent) {
     if (slots == PLACES) fill_highways(filled, sent, PLACES); // by a loop of a fixed length
     else fill_highways(filled, sent, STRICT_SLOTS);
-    if (2 * __builtin_popcountll(spoken_on) <= __builtin_popcountll(live.to)) cross_few();
+    if (2 * __builtin_popcountll(spoken_on) <= __builtin_popcountll(to_on)) cross_few();
     else if (slots == PLACES) cross_all(PLACES);
     else cross_all(STRICT_SLOTS);
 }
@@ -163,7 +163,7 @@ static void follow_changes(Row *filling) {
     if (some >> external) find_members(filling);
     for (some = changed_on[now]; some;) {
         unsigned line = next_line(&some);
-        memcpy(crossed_by[line], live.out[line], sizeof(Row));
+        memcpy(crossed_by[line], outgoing[line].slot, sizeof(Row));
     }
 }
 
