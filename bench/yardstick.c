@@ -40,6 +40,7 @@ static void start(void) {
     memset(crossed, IDLE, sizeof crossed);
     memset(none_before, 0xFF, sizeof none_before);
     make_prefixes();
+    make_digits();
     if (!bridges) return;
     for (int octet = 0; octet < 256; octet++) linear[octet] = expand(octet);
     for (int v = -MOST; v <= MOST; v++) codes[v + MOST] = compress(v);

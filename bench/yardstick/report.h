@@ -89,14 +89,23 @@ static void put_numbers(unsigned a, unsigned b) {
     put_number(b);
 }
 
+// The digits of each octet, and of an idle row.
+static uint8_t octet_digits[256][2];
+static char idle_digits[2 * PLACES];
+
+static void make_digits(void) {
+    static const char digits[] = "0123456789ABCDEF";
+    for (int octet = 0; octet < 256; octet++) {
+        octet_digits[octet][0] = digits[octet >> 4];
+        octet_digits[octet][1] = digits[octet & 15];
+    }
+    for (int k = 0; k < PLACES; k++) memcpy(idle_digits + 2 * k, octet_digits[IDLE], 2);
+}
+
 // The digits of a few octets.
 static inline void put_few(const uint8_t *octets, size_t length) {
-    static const char digits[] = "0123456789ABCDEF";
     uint8_t *to = out + out_len;
-    for (size_t k = 0; k < length; k++) {
-        to[2 * k] = digits[octets[k] >> 4];
-        to[2 * k + 1] = digits[octets[k] & 15];
-    }
+    for (size_t k = 0; k < length; k++) memcpy(to + 2 * k, octet_digits[octets[k]], 2);
     out_len += 2 * length;
 }
 
@@ -104,11 +113,10 @@ static inline void put_octet(uint8_t octet) { put_few(&octet, 1); }
 
 // The digits of a whole row: of the idle octets behind its thirty they are written over.
 static void put_octets(const uint8_t *octets) {
-    uint8_t *digits = out + out_len;
-    for (int k = 0; k < CELLS; k++) {
-        uint8_t high = octets[k] >> 4, low = octets[k] & 15;
-        digits[2 * k] = high + '0' + (high > 9 ? 'A' - '9' - 1 : 0);
-        digits[2 * k + 1] = low + '0' + (low > 9 ? 'A' - '9' - 1 : 0);
-    }
+    uint8_t *digits = out + out_len, halves[2 * CELLS];
+    uint16_t pairs[CELLS];
+    for (int k = 0; k < CELLS; k++) pairs[k] = (octets[k] >> 4 | octets[k] << 8) & 0x0F0F;
+    memcpy(halves, pairs, sizeof halves);
+    for (int k = 0; k < 2 * CELLS; k++) digits[k] = halves[k] + '0' + (halves[k] > 9 ? 'A' - '9' - 1 : 0);
     out_len += 2 * PLACES;
 }

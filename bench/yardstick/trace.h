@@ -98,9 +98,9 @@ static int read_octets(uint8_t *octets, const uint8_t *digits) {
     uint16_t pairs[CELLS];
     memcpy(value, digits, 2 * PLACES);
     for (int k = 0; k < 2 * CELLS; k++) {
-        uint8_t digit = value[k];
-        bad |= (uint8_t)(digit - '0') > 9 && (uint8_t)((digit | 0x20) - 'a') > 5;
-        value[k] = (digit & 15) + 9 * (digit >> 6);
+        uint8_t digit = value[k], decimal = digit - '0', letter = (digit | 0x20) - 'a';
+        bad |= (decimal > 9) & (letter > 5);
+        value[k] = (digit & 15) + (decimal > 9 ? 9 : 0);
     }
     memcpy(pairs, value, sizeof pairs);
     for (int k = 0; k < CELLS; k++) octets[k] = pairs[k] << 4 | pairs[k] >> 8;
