@@ -35,6 +35,7 @@ static void start(void) {
     memset(room_at, NO_ROOM, sizeof room_at);
     memset(crossed_by, NO_SLOT, sizeof crossed_by);
     memset(read_from, NO_SLOT, sizeof read_from);
+    memset(read_at, NO_CELL, sizeof read_at);
     memset(halves, IDLE, sizeof halves);
     memset(highways, IDLE, sizeof highways);
     memset(crossed, IDLE, sizeof crossed);

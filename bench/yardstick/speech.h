@@ -4,16 +4,19 @@
 static Row halves[2][LINES];
 static SlotRow highways[LINES + 1], crossed[LINES];
 static Lines sent_on[2], spoken_on, crossed_to; // the rows of these that may not be idle
+static uint64_t loud[LINES]; // the octets of crossed rows that may not be idle
 
 // What is read out: for each place its internal slot, where its circuit is heard, and the places and lines that have one;
 // for each port in a room where its member is read, if it is heard. It follows `crossed_by`, the slots of the places when
 // the octets were crossed. A change alters it in its own frame and in the two behind that.
 static Row crossed_by[LINES], read_from[LINES];
+static SlotRow read_at[LINES]; // for each internal slot the place where it is heard
 static uint32_t hearing[LINES];
 static Lines heard_on;
 static struct { uint8_t line, place, room, slot; int16_t heard; } members[BRIDGES * PLACES];
 static unsigned member_count;
 
+enum { FEW = 10 }; // octets of a row that are written one by one
 enum { MOST = 4095 }; // the greatest magnitude
 static int16_t linear[256];
 static uint8_t codes[2 * MOST + 1];
@@ -33,8 +36,11 @@ static uint8_t compress(int32_t v) {
 }
 
 static void find_heard_at(unsigned line, unsigned place) {
+    uint8_t last = read_from[line][place];
     uint8_t slot = heard_from[line][place] <= frame_number ? crossed_by[line][place] : NO_SLOT;
+    if (read_at[line][last] == place) read_at[line][last] = NO_CELL;
     read_from[line][place] = slot;
+    read_at[line][slot] = place;
     if (slot == NO_SLOT) hearing[line] &= ~(1u << place);
     else hearing[line] |= 1u << place;
 }
@@ -96,27 +102,34 @@ static inline void fill_highways(Row *filled, Lines sent, const unsigned slots) 
     spoken_on = speaking;
 }
 
+static void silence(unsigned line) {
+    memcpy(crossed[line], idle_row, sizeof(SlotRow));
+    loud[line] = 0;
+}
+
 // The second stage: across to the outgoing lines.
 static inline void cross_all(const unsigned slots) {
-    for (Lines some = crossed_to & ~to_on; some;) memcpy(crossed[next_line(&some)], idle_row, sizeof(SlotRow));
+    for (Lines some = crossed_to & ~to_on; some;) silence(next_line(&some));
     for (Lines some = to_on; some;) {
         unsigned j = next_line(&some);
         const uint8_t *restrict by = outgoing[j].other;
         uint8_t *restrict to = crossed[j];
         for (unsigned s = 0; s < slots; s++) to[s] = highways[by[s]][s];
+        loud[j] = outgoing[j].taken;
     }
     crossed_to = to_on;
 }
 
 // The same, path by path, for few lines that send.
 static void cross_few(void) {
-    for (Lines some = crossed_to; some;) memcpy(crossed[next_line(&some)], idle_row, sizeof(SlotRow));
+    for (Lines some = crossed_to; some;) silence(next_line(&some));
     crossed_to = 0;
     for (Lines some = spoken_on; some;) {
         unsigned i = next_line(&some);
         for (uint64_t left = incoming[i].taken; left; left &= left - 1) {
             unsigned s = __builtin_ctzll(left), j = incoming[i].other[s];
             crossed[j][s] = highways[i][s];
+            loud[j] |= 1ull << s;
             crossed_to |= (Lines)1 << j;
         }
     }
@@ -140,17 +153,39 @@ static void put_tones(unsigned line, uint8_t *heard) {
     }
 }
 
-// What each external line sends, where it isn't idle.
+// Writes a row of which few octets may not be idle, if one is not.
+static void send_few(unsigned line) {
+    uint8_t some = 0;
+    size_t from = out_len;
+    put_prefix(line);
+    put_text(idle_digits, sizeof idle_digits);
+    uint8_t *digits = out + out_len - 2 * PLACES;
+    for (uint64_t left = loud[line]; left; left &= left - 1) {
+        unsigned slot = __builtin_ctzll(left), place = read_at[line][slot];
+        uint8_t octet = crossed[line][slot];
+        memcpy(digits + 2 * place, octet_digits[octet], 2); // NO_CELL is behind the row
+        some |= place == NO_CELL ? 0 : octet ^ IDLE;
+    }
+    if (!some) out_len = from;
+}
+
+// Writes a row if an octet of it is not idle.
+static void send_all(unsigned line) {
+    const uint8_t *restrict from = crossed[line], *restrict by = read_from[line];
+    Row heard;
+    for (int k = 0; k < CELLS; k++) heard[k] = from[by[k]];
+    if (__builtin_expect(toned[line] != 0, 0)) put_tones(line, heard); // in most traces none rings
+    if (!memcmp(heard, idle_row, sizeof heard)) return;
+    put_prefix(line);
+    put_octets(heard);
+}
+
+// What each external line sends.
 static void send(void) {
     for (Lines some = ((heard_on & crossed_to) | toned_on) & below(external); some;) {
-        unsigned l = next_line(&some);
-        const uint8_t *restrict from = crossed[l], *restrict by = read_from[l];
-        Row heard;
-        for (int k = 0; k < CELLS; k++) heard[k] = from[by[k]];
-        if (__builtin_expect(toned[l] != 0, 0)) put_tones(l, heard); // in most traces none rings
-        if (!memcmp(heard, idle_row, sizeof heard)) continue;
-        put_prefix(l);
-        put_octets(heard);
+        unsigned line = next_line(&some);
+        if (!toned[line] && __builtin_popcountll(loud[line]) <= FEW) send_few(line);
+        else send_all(line);
     }
 }
 
