@@ -39,6 +39,7 @@ static void start(void) {
     memset(halves, IDLE, sizeof halves);
     memset(highways, IDLE, sizeof highways);
     memset(crossed, IDLE, sizeof crossed);
+    memset(due_in, 0xFF, sizeof due_in);
     memset(none_before, 0xFF, sizeof none_before);
     make_prefixes();
     make_digits();

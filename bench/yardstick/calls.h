@@ -7,7 +7,7 @@ typedef enum {
 
 // A leg holds a slot of its line. The reference of a called leg was chosen here, a caller's by the
 // user; `other` is the slot of the other leg, where that is the peer. A leg has the cause with which it was cleared,
-// waits since a frame, and may have been sent its last message again. An active one waits where `resent` is set: its data
+// may wait, and may have been sent its last message again. An active one waits where `resent` is set: its data
 // link is down. Once that is up, its user is asked for its state, and may not have answered yet.
 typedef struct {
     uint8_t state, called;
@@ -15,7 +15,6 @@ typedef struct {
     uint16_t reference;
     Slot other;
     uint8_t cause, resent, asked;
-    uint32_t since;
 } Leg;
 
 static Leg legs[EXTERNAL][PLACES];
@@ -42,23 +41,17 @@ static const uint8_t timer_in[RELEASE_REQUEST + 1] = {
     [RECEIVED] = T301 + 1, [ACTIVE] = T309 + 1, [DISCONNECT_INDICATION] = T305 + 1, [RELEASE_REQUEST] = T308 + 1,
 };
 
-// No leg at this place of any line is due before this frame.
-static uint32_t none_before[PLACES];
-
-// The frame in which a leg is due.
-static uint32_t due(const Leg *l) {
-    unsigned timer = timer_in[l->state];
-    if (!timer || (l->state == ACTIVE && !l->resent)) return NEVER;
-    uint32_t end = l->since + timers[timer - 1];
-    return end < l->since ? NEVER : end;
-}
+// The frame in which each leg is due, by its place and line, and one before which none at the place is.
+static uint32_t due_in[PLACES][EXTERNAL], none_before[PLACES];
 
 // The leg waits from the next frame on.
 static void wait(Slot x) {
-    Leg *l = leg(x);
-    l->since = frame_number;
-    uint32_t end = due(l);
-    if (end < none_before[x.place]) none_before[x.place] = end;
+    const Leg *l = leg(x);
+    unsigned timer = timer_in[l->state];
+    int waits = timer && (l->state != ACTIVE || l->resent);
+    uint32_t due = waits ? frame_number + timers[timer - 1] : NEVER;
+    due_in[x.place][x.line] = due;
+    if (due < none_before[x.place]) none_before[x.place] = due;
 }
 
 // The leg waits for the second time in its state, or an active one for its data link.
@@ -121,6 +114,7 @@ static void remove_leg(Slot x) {
         caller_at[x.line][l->reference] = 0;
     }
     l->state = NULL_STATE;
+    due_in[x.place][x.line] = NEVER;
 }
 
 static void put_to(Slot x, const Leg *l, Type type) { put_message(x.line, !l->called, l->reference, type); }

@@ -61,20 +61,25 @@ static void run_out(Slot x) {
     }
 }
 
+static uint32_t first_due(unsigned place) {
+    uint32_t first = NEVER;
+    for (unsigned line = 0; line < EXTERNAL; line++)
+        if (due_in[place][line] < first) first = due_in[place][line];
+    return first;
+}
+
 // Behind a frame, whose octets begin here in the report: what is sent is reported before them. What a slot hears
 // belongs to the world before, so they are written first.
 static void expire(size_t octets) {
     static uint8_t said[EXTERNAL * 2 * CELLS];
-    uint32_t f = frame_number - 1, next = NEVER;
+    uint32_t f = frame_number - 1;
     unsigned place = f % PLACES;
     if (none_before[place] > f) return;
     size_t length = out_len - octets;
     memcpy(said, out + octets, length);
     out_len = octets;
     for (unsigned line = 0; line < external; line++)
-        if (due(&legs[line][place]) <= f) run_out((Slot){ line, place });
-    for (unsigned line = 0; line < external; line++)
-        if (due(&legs[line][place]) < next) next = due(&legs[line][place]);
-    none_before[place] = next;
+        if (due_in[place][line] <= f) run_out((Slot){ line, place });
+    none_before[place] = first_due(place);
     put_text((const char *)said, length);
 }
