@@ -114,6 +114,26 @@ static const uint8_t one_more_than_value[256] = {
 // The value of a digit, above 15 where it is none.
 static unsigned digit_value(uint8_t c) { return one_more_than_value[c] - 1u; }
 
+// By two digits, as one number of their characters, the octet that they write and 256; 0 for other characters.
+static uint16_t hex_pairs[1 << 16];
+
+static inline unsigned hex_pair(const uint8_t *p) {
+    uint16_t pair;
+    memcpy(&pair, p, sizeof pair);
+    return hex_pairs[pair];
+}
+
+static void make_hex_pairs(void) {
+    static const char digits[] = "0123456789ABCDEFabcdef";
+    for (const char *high = digits; *high; high++) {
+        for (const char *low = digits; *low; low++) {
+            uint16_t pair;
+            memcpy(&pair, (char[]){ *high, *low }, sizeof pair);
+            hex_pairs[pair] = 256 | digit_value(*high) << 4 | digit_value(*low);
+        }
+    }
+}
+
 // The octets that a word's digits write, at most n; answers how many they are.
 static unsigned read_hex(Word word, uint8_t *octets, size_t most) {
     size_t count = word.end - word.at;
@@ -281,11 +301,7 @@ static const uint8_t *read_plain_message(const uint8_t *p) {
     if (p[1] != ' ') return NULL;
     p = read_plain_number(p + 2, &line);
     if (line >= external || *p++ != ' ') return NULL;
-    for (; length < MESSAGE; p += 2) {
-        unsigned high = digit_value(p[0]), low = digit_value(p[1]);
-        if ((high | low) >> 4) break;
-        octets[length++] = high << 4 | low;
-    }
+    for (unsigned octet; length < MESSAGE && (octet = hex_pair(p)); p += 2) octets[length++] = octet;
     if (!length || *p != '\n') return NULL;
     append_message(line, length);
     return p + 1;
@@ -384,6 +400,7 @@ static uint8_t *read_input(size_t *len) {
 static void read_trace(void) {
     size_t len;
     uint8_t *bytes = read_input(&len);
+    make_hex_pairs();
     if (len > MOST_BYTES) refuse("limit");
     for (const uint8_t *p = bytes, *end = bytes + len; p < end;) {
         line_number++;
