@@ -2,8 +2,9 @@
 
 // In a frame one half of the speech memory is crossed and the other is filled.
 static Row halves[2][LINES];
-static SlotRow highways[LINES + 1], crossed[LINES];
-static Lines sent_on[2], spoken_on, crossed_to; // the rows of these that may not be idle
+static uint8_t highways[STRICT_SLOTS][LINES + 1]; // by internal slot, and by incoming line or NO_LINE
+static SlotRow crossed[LINES];
+static Lines sent_on[2], highways_on, crossed_to; // the lines of these that may not be idle
 static uint64_t loud[LINES]; // the octets of crossed rows that may not be idle
 
 // What is read out: for each place its internal slot, where its circuit is heard, and the places and lines that have one;
@@ -89,17 +90,20 @@ static void mix(Row *filling) {
     }
 }
 
-// The first stage: into the internal slots of each incoming line. A line that sends nothing is written once.
-static inline void fill_highways(Row *filled, Lines sent, const unsigned slots) {
-    Lines speaking = from_on & sent;
-    for (Lines some = spoken_on & ~speaking; some;) memcpy(highways[next_line(&some)], idle_row, sizeof(SlotRow));
-    for (Lines some = speaking; some;) {
-        unsigned i = next_line(&some);
+// The first stage: into the internal slots of incoming lines.
+static inline void fill_highways(Row *filled, Lines speaking, const unsigned slots) {
+    while (speaking) {
+        unsigned i = next_line(&speaking);
         const uint8_t *restrict from = filled[i], *restrict in = incoming[i].place;
-        uint8_t *restrict to = highways[i];
-        for (unsigned s = 0; s < slots; s++) to[s] = from[in[s]];
+        for (unsigned s = 0; s < slots; s++) highways[s][i] = from[in[s]];
     }
-    spoken_on = speaking;
+}
+
+static void silence_highways(Lines some) {
+    while (some) {
+        unsigned i = next_line(&some);
+        for (unsigned s = 0; s < STRICT_SLOTS; s++) highways[s][i] = IDLE;
+    }
 }
 
 static void silence(unsigned line) {
@@ -114,32 +118,40 @@ static inline void cross_all(const unsigned slots) {
         unsigned j = next_line(&some);
         const uint8_t *restrict by = outgoing[j].other;
         uint8_t *restrict to = crossed[j];
-        for (unsigned s = 0; s < slots; s++) to[s] = highways[by[s]][s];
+        for (unsigned s = 0; s < slots; s++) to[s] = highways[s][by[s]];
         loud[j] = outgoing[j].taken;
     }
     crossed_to = to_on;
 }
 
 // The same, path by path, for few lines that send.
-static void cross_few(void) {
+static void cross_few(Lines speaking) {
     for (Lines some = crossed_to; some;) silence(next_line(&some));
     crossed_to = 0;
-    for (Lines some = spoken_on; some;) {
-        unsigned i = next_line(&some);
+    while (speaking) {
+        unsigned i = next_line(&speaking);
         for (uint64_t left = incoming[i].taken; left; left &= left - 1) {
             unsigned s = __builtin_ctzll(left), j = incoming[i].other[s];
-            crossed[j][s] = highways[i][s];
+            crossed[j][s] = highways[s][i];
             loud[j] |= 1ull << s;
             crossed_to |= (Lines)1 << j;
         }
     }
 }
 
+// The loops have a fixed length. The highways of lines that send nothing count only where all lines are crossed.
 static void cross(Row *filled, Lines sent) {
-    if (slots == PLACES) fill_highways(filled, sent, PLACES); // by a loop of a fixed length
-    else fill_highways(filled, sent, STRICT_SLOTS);
-    if (2 * __builtin_popcountll(spoken_on) <= __builtin_popcountll(to_on)) cross_few();
-    else if (slots == PLACES) cross_all(PLACES);
+    Lines speaking = from_on & sent;
+    if (slots == PLACES) fill_highways(filled, speaking, PLACES);
+    else fill_highways(filled, speaking, STRICT_SLOTS);
+    highways_on |= speaking;
+    if (2 * __builtin_popcountll(speaking) <= __builtin_popcountll(to_on)) {
+        cross_few(speaking);
+        return;
+    }
+    silence_highways(highways_on & ~speaking);
+    highways_on = speaking;
+    if (slots == PLACES) cross_all(PLACES);
     else cross_all(STRICT_SLOTS);
 }
 
