@@ -8,10 +8,10 @@ static uint32_t ports[BRIDGES]; // those taken
 static uint32_t taken[EXTERNAL]; // the slots that a circuit names or a leg of a call holds
 static uint32_t held[EXTERNAL]; // those that a leg holds
 
-// The slots that hear a tone, of which kind, and the place in it of the octet for the next frame.
+// The slots that hear a tone, and the octet of it for the next frame, the end and the first one.
 static uint32_t toned[EXTERNAL];
 static Lines toned_on;
-static struct { uint16_t next; uint8_t kind; } tone_at[EXTERNAL][PLACES];
+static struct { const uint8_t *next, *end, *first; } tone_at[EXTERNAL][PLACES];
 
 static Circuit *circuit(Slot x) { return &circuits[x.line][x.place]; }
 static int is_in(const uint32_t *slots, Slot x) { return slots[x.line] >> x.place & 1; }
@@ -59,8 +59,9 @@ static int sound(Slot x, ToneKind kind) {
     circuit(x)->kind = TONED;
     add(toned, x);
     toned_on |= (Lines)1 << x.line;
-    tone_at[x.line][x.place].next = 0;
-    tone_at[x.line][x.place].kind = kind;
+    const uint8_t *first = tones[kind].octets;
+    tone_at[x.line][x.place].next = tone_at[x.line][x.place].first = first;
+    tone_at[x.line][x.place].end = first + tones[kind].length;
     return 1;
 }
 

@@ -8,13 +8,13 @@ static Lines sent_on[2], highways_on, crossed_to; // the lines of these that may
 static uint64_t loud[LINES]; // the octets of crossed rows that may not be idle
 
 // What is read out: for each place its internal slot, where its circuit is heard, and the places and lines that have one;
-// for each port in a room where its member is read, if it is heard. It follows `crossed_by`, the slots of the places when
-// the octets were crossed. A change alters it in its own frame and in the two behind that.
+// for each port in a room where its member is read, if it is heard, and where the room's mix goes. It follows `crossed_by`,
+// the slots of the places when the octets were crossed. A change alters it in its own frame and in the two behind that.
 static Row crossed_by[LINES], read_from[LINES];
 static SlotRow read_at[LINES]; // for each internal slot the place where it is heard
 static uint32_t hearing[LINES];
 static Lines heard_on;
-static struct { uint8_t line, place, room, slot; int16_t heard; } members[BRIDGES * PLACES];
+static struct { uint16_t from, to; int16_t heard; uint8_t room; } members[BRIDGES * PLACES]; // two octets by their offsets
 static unsigned member_count;
 
 enum { FEW = 10 }; // octets of a row that are written one by one
@@ -66,12 +66,10 @@ static void find_members(Row *filling) {
         memcpy(filling[line], idle_row, sizeof(Row));
         for (int k = 0; k < PLACES; k++) {
             if (room_at[b][k] == NO_ROOM) continue;
-            uint8_t slot = read_from[line][k];
-            members[member_count].line = line;
-            members[member_count].place = k;
-            members[member_count].room = room_at[b][k];
-            members[member_count].slot = slot;
-            members[member_count++].heard = heard_from[line][k] <= frame_number ? -1 : 0;
+            members[member_count].from = line * sizeof(SlotRow) + read_from[line][k];
+            members[member_count].to = line * sizeof(Row) + k;
+            members[member_count].heard = heard_from[line][k] <= frame_number ? -1 : 0;
+            members[member_count++].room = room_at[b][k];
         }
     }
 }
@@ -79,14 +77,16 @@ static void find_members(Row *filling) {
 // Each member's port gets the sum of the others in its room: the room's total without itself.
 static void mix(Row *filling) {
     int32_t totals[ROOMS] = { 0 }, own[BRIDGES * PLACES];
+    const uint8_t *from = (const uint8_t *)crossed;
+    uint8_t *to = (uint8_t *)filling;
     for (unsigned m = 0; m < member_count; m++) {
-        own[m] = linear[crossed[members[m].line][members[m].slot]] & members[m].heard;
+        own[m] = linear[from[members[m].from]] & members[m].heard;
         totals[members[m].room] += own[m];
     }
     for (unsigned m = 0; m < member_count; m++) {
         int32_t others = totals[members[m].room] - own[m];
         others = others > MOST ? MOST : others < -MOST ? -MOST : others;
-        filling[members[m].line][members[m].place] = codes[others + MOST];
+        to[members[m].to] = codes[others + MOST];
     }
 }
 
@@ -159,9 +159,9 @@ static void cross(Row *filled, Lines sent) {
 static void put_tones(unsigned line, uint8_t *heard) {
     for (uint32_t left = toned[line]; left; left &= left - 1) {
         unsigned place = __builtin_ctz(left);
-        const Tone *tone = &tones[tone_at[line][place].kind];
-        heard[place] = tone->octets[tone_at[line][place].next++];
-        if (tone_at[line][place].next == tone->length) tone_at[line][place].next = 0;
+        const uint8_t *next = tone_at[line][place].next;
+        heard[place] = *next++;
+        tone_at[line][place].next = next == tone_at[line][place].end ? tone_at[line][place].first : next;
     }
 }
 
