@@ -185,7 +185,8 @@ static void send_few(unsigned line) {
 static void send_all(unsigned line) {
     const uint8_t *restrict from = crossed[line], *restrict by = read_from[line];
     Row heard;
-    for (int k = 0; k < CELLS; k++) heard[k] = from[by[k]];
+    for (int k = 0; k < PLACES; k++) heard[k] = from[by[k]];
+    memcpy(heard + PLACES, idle_row, CELLS - PLACES);
     if (__builtin_expect(toned[line] != 0, 0)) put_tones(line, heard); // in most traces none rings
     if (!memcmp(heard, idle_row, sizeof heard)) return;
     put_prefix(line);

@@ -308,8 +308,8 @@ static const uint8_t *read_plain_message(const uint8_t *p) {
 }
 
 static const uint8_t *read_plain(const uint8_t *p) {
+    if (!memcmp(p, "sync\n", 5)) return p + 5;
     switch (*p) {
-    case 's': return memcmp(p, "sync\n", 5) ? NULL : p + 5;
     case 'F': return read_plain_frame(p);
     case 'M': return read_plain_message(p);
     case 'n': return read_plain_nail(p);
