@@ -13,6 +13,7 @@
 #include <unistd.h>
 
 #include "yardstick/exchange.h"
+#include "yardstick/input.h"
 #include "yardstick/report.h"
 #include "yardstick/plan.h"
 #include "yardstick/trace.h"

@@ -13,9 +13,7 @@ enum {
     IDLE = 0xD5,
     MOST_EVENTS = 65535,
     MOST_CHANGES = 65535,
-    MOST_BYTES = 1 << 26,
     PIECE = 1 << 16,
-    PADDING = 64, // zeros behind a trace
     // Entries of tables that name nothing: a cell, an internal slot, a line and a room that are there, and count for
     // nothing.
     NO_CELL = PLACES,

@@ -12,13 +12,6 @@ static void flush(void) {
     out_len = 0;
 }
 
-static unsigned line_number; // the line of the trace that is read
-
-static _Noreturn void refuse(const char *why) {
-    printf("refused %u %s\n", line_number, why);
-    exit(1);
-}
-
 // The length of the text is known where this is used, so that the compiler writes it whole.
 #define put(text) put_text(text, sizeof text - 1)
 

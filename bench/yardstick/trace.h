@@ -162,7 +162,7 @@ static void append_frame(unsigned count) {
 }
 
 // What follows up to read_part(), and the two functions like it, read a line with single spaces and no fault, and answer
-// where the next line begins. Any other line is NULL, and read word by word. Zeros behind the trace end each of them.
+// where the next line begins. Any other line is NULL, and read word by word. Zeros behind a part of the trace end each of them.
 
 // A number of one or two digits without a leading zero; too great where there is none.
 static inline const uint8_t *read_plain_number(const uint8_t *p, unsigned *n) {
@@ -385,30 +385,22 @@ static const uint8_t *read_line(const uint8_t *p, const uint8_t *end) {
     return p + (p < end);
 }
 
-// The octets of standard input, with zeros behind them.
-static uint8_t *read_input(size_t *len) {
-    size_t room = 1 << 20;
-    uint8_t *bytes = malloc(room + PADDING);
-    *len = 0;
-    for (ssize_t n; bytes && (n = read(0, bytes + *len, room - *len)) > 0;)
-        if ((*len += n) == room) bytes = realloc(bytes, (room *= 2) + PADDING);
-    if (!bytes) exit(5);
-    memset(bytes + *len, 0, PADDING);
-    return bytes;
-}
-
 static void read_trace(void) {
-    size_t len;
-    uint8_t *bytes = read_input(&len);
+    Input in = { 0 };
+    size_t rest = 0, newest;
     make_hex_pairs();
-    if (len > MOST_BYTES) refuse("limit");
-    for (const uint8_t *p = bytes, *end = bytes + len; p < end;) {
-        line_number++;
-        const uint8_t *next = external ? read_plain(p) : NULL;
-        p = next ? next : read_line(p, end);
-    }
+    do {
+        newest = read_on(&in, rest);
+        const uint8_t *p = in.bytes, *end = newest ? last_end(&in, newest) : p + in.length;
+        rest = in.bytes + in.length - end;
+        while (p < end) {
+            line_number++;
+            const uint8_t *next = external ? read_plain(p) : NULL;
+            p = next ? next : read_line(p, end);
+        }
+    } while (newest);
     line_number++;
     if (!external) refuse("header");
     changes[change_count] = NEVER;
-    free(bytes);
+    free(in.bytes);
 }
