@@ -61,12 +61,15 @@ static void disconnect(Slot from) {
 
 // A chain of paths, by the lines that it leads to from the first one on, which is an end of it. It leaves an outgoing line
 // in slot a and an incoming one in slot b.
-typedef struct { unsigned first, paths, line[2 * LINES]; } Chain; // `first` is which end
+typedef struct { unsigned first, paths, line[2 * LINES]; } Chain; // `first` is INCOMING or OUTGOING
+
+static inline unsigned which_end(const Chain *c, unsigned k) { return c->first ^ (k & 1); }
+static inline End *end_at(const Chain *c, unsigned k) { return &ends[which_end(c, k)][c->line[k]]; }
 
 // Goes on by a path, if there is one; answers whether.
 static inline int walk(Chain *c, unsigned a, unsigned b) {
-    unsigned which = c->first ^ (c->paths & 1), slot = which == OUTGOING ? a : b;
-    const End *e = &ends[which][c->line[c->paths]];
+    unsigned slot = which_end(c, c->paths) == OUTGOING ? a : b;
+    const End *e = end_at(c, c->paths);
     if (!(e->taken >> slot & 1)) return 0;
     c->line[++c->paths] = e->other[slot];
     return 1;
@@ -75,8 +78,6 @@ static inline int walk(Chain *c, unsigned a, unsigned b) {
 // What is in slot a comes into slot b, and the other way round; answers which places it has.
 static inline uint32_t swap_slots(End *e, unsigned a, unsigned b) {
     uint8_t place_a = e->place[a], place_b = e->place[b], other = e->other[a];
-    uint64_t differ = (e->taken >> a ^ e->taken >> b) & 1;
-    e->taken ^= differ << a | differ << b;
     e->other[a] = e->other[b];
     e->other[b] = other;
     e->place[a] = place_b;
@@ -84,6 +85,16 @@ static inline uint32_t swap_slots(End *e, unsigned a, unsigned b) {
     e->slot[place_a] = b; // also for NO_CELL, which counts for nothing
     e->slot[place_b] = a;
     return 1u << place_a | 1u << place_b;
+}
+
+// Exchanges two slots on a chain. Its first and its last line have one of them taken, and those between have both.
+static void move_paths(const Chain *c, unsigned a, unsigned b) {
+    for (unsigned k = 0; k <= c->paths; k++) {
+        uint32_t places = swap_slots(end_at(c, k), a, b);
+        if (which_end(c, k) == OUTGOING) mark(c->line[k], places);
+    }
+    end_at(c, 0)->taken ^= 1ull << a | 1ull << b;
+    end_at(c, c->paths)->taken ^= 1ull << a | 1ull << b;
 }
 
 // Makes room for a path from line i, which leaves a free, to line j, which leaves b free, where no slot is
@@ -96,11 +107,7 @@ static unsigned exchange(unsigned i, unsigned j, unsigned a, unsigned b, unsigne
     from.first = INCOMING, from.paths = 0, from.line[0] = i;
     while (walk(&to, a, b) && walk(&from, a, b)) {}
     const Chain *chain = from.paths < to.paths ? &from : &to;
-    for (unsigned k = 0; k <= chain->paths; k++) {
-        unsigned which = chain->first ^ (k & 1), line = chain->line[k];
-        uint32_t places = swap_slots(&ends[which][line], a, b);
-        if (which == OUTGOING) mark(line, places);
-    }
+    move_paths(chain, a, b);
     *moved = chain->paths;
     return chain == &to ? a : b;
 }
