@@ -31,6 +31,7 @@ static void start(void) {
         memset(e->place, NO_CELL, sizeof e->place);
         memset(e->other, NO_LINE, sizeof e->other);
         memset(e->slot, NO_SLOT, sizeof e->slot);
+        e->line = k % LINES;
     }
     memset(heard_from, 0xFF, sizeof heard_from);
     memset(room_at, NO_ROOM, sizeof room_at);

@@ -7,6 +7,7 @@ typedef struct {
     SlotRow place, other;
     Row slot;
     uint64_t taken;
+    unsigned line;
 } End;
 
 enum { INCOMING, OUTGOING };
@@ -61,17 +62,16 @@ static void disconnect(Slot from) {
 
 // A chain of paths, by the lines that it leads to from the first one on, which is an end of it. It leaves an outgoing line
 // in slot a and an incoming one in slot b.
-typedef struct { unsigned first, paths, line[2 * LINES]; } Chain; // `first` is INCOMING or OUTGOING
+typedef struct { unsigned first, paths; End *end[2 * LINES]; } Chain; // `first` is INCOMING or OUTGOING
 
 static inline unsigned which_end(const Chain *c, unsigned k) { return c->first ^ (k & 1); }
-static inline End *end_at(const Chain *c, unsigned k) { return &ends[which_end(c, k)][c->line[k]]; }
 
 // Goes on by a path, if there is one; answers whether.
 static inline int walk(Chain *c, unsigned a, unsigned b) {
-    unsigned slot = which_end(c, c->paths) == OUTGOING ? a : b;
-    const End *e = end_at(c, c->paths);
+    unsigned which = which_end(c, c->paths), slot = which == OUTGOING ? a : b;
+    const End *e = c->end[c->paths];
     if (!(e->taken >> slot & 1)) return 0;
-    c->line[++c->paths] = e->other[slot];
+    c->end[++c->paths] = &ends[!which][e->other[slot]];
     return 1;
 }
 
@@ -90,11 +90,11 @@ static inline uint32_t swap_slots(End *e, unsigned a, unsigned b) {
 // Exchanges two slots on a chain. Its first and its last line have one of them taken, and those between have both.
 static void move_paths(const Chain *c, unsigned a, unsigned b) {
     for (unsigned k = 0; k <= c->paths; k++) {
-        uint32_t places = swap_slots(end_at(c, k), a, b);
-        if (which_end(c, k) == OUTGOING) mark(c->line[k], places);
+        uint32_t places = swap_slots(c->end[k], a, b);
+        if (which_end(c, k) == OUTGOING) mark(c->end[k]->line, places);
     }
-    end_at(c, 0)->taken ^= 1ull << a | 1ull << b;
-    end_at(c, c->paths)->taken ^= 1ull << a | 1ull << b;
+    c->end[0]->taken ^= 1ull << a | 1ull << b;
+    c->end[c->paths]->taken ^= 1ull << a | 1ull << b;
 }
 
 // Makes room for a path from line i, which leaves a free, to line j, which leaves b free, where no slot is
@@ -103,8 +103,8 @@ static void move_paths(const Chain *c, unsigned a, unsigned b) {
 // how many paths moved.
 static unsigned exchange(unsigned i, unsigned j, unsigned a, unsigned b, unsigned *moved) {
     Chain to, from;
-    to.first = OUTGOING, to.paths = 0, to.line[0] = j;
-    from.first = INCOMING, from.paths = 0, from.line[0] = i;
+    to.first = OUTGOING, to.paths = 0, to.end[0] = &outgoing[j];
+    from.first = INCOMING, from.paths = 0, from.end[0] = &incoming[i];
     while (walk(&to, a, b) && walk(&from, a, b)) {}
     const Chain *chain = from.paths < to.paths ? &from : &to;
     move_paths(chain, a, b);
