@@ -1,7 +1,7 @@
 // The same job by hand: a trace of nails, seats, frees, messages, data links, restarts and frames on standard input, its
 // report on standard output. It has the same tables as the proved exchange, so that it is a measure of the speed
 // of the proved program; nothing is proved of it. It is written to be fast: rows are worked through
-// whole, without a test for each octet, a frame costs what is connected and not what could be, and each leg
+// whole, without a test for each octet, a frame costs what is connected and sends and not what could, and each leg
 // of a call, slot and number is found in a table. It is one program in parts, compiled as one. With the word
 // `--strict` its lines have 59 internal slots in place of 30, and no path is ever moved. With `--meters ON SPARE`, up to
 // nine of each, it has these numbers of meters in place of three and three, and at the end a line `left` and what the

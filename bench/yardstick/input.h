@@ -1,7 +1,7 @@
 // Standard input, a part at a time.
 
 enum {
-    PART = 1 << 18, // octets that are read at once, but for a longer line
+    PART = 1 << 18, // octets that are read at once, unless a line is longer
     PADDING = 64, // zeros behind them
     MOST_BYTES = 1 << 26,
 };
@@ -27,7 +27,7 @@ static void make_room(Input *in) {
     if (!in->bytes) exit(5);
 }
 
-// Reads on behind the last `rest` octets, which come to the front. Answers how many octets were read.
+// Reads on behind the last `rest` octets, which come to the beginning. Answers how many octets were read.
 static size_t read_on(Input *in, size_t rest) {
     if (in->length) memmove(in->bytes, in->bytes + in->length - rest, rest);
     if (rest == in->room) make_room(in);

@@ -21,22 +21,23 @@ static inline void put_text(const char *text, size_t length) {
 }
 
 // Two digits for each number below 100.
-static const char pairs[] =
+static const char two_digits[] =
     "0001020304050607080910111213141516171819"
     "2021222324252627282930313233343536373839"
     "4041424344454647484950515253545556575859"
     "6061626364656667686970717273747576777879"
     "8081828384858687888990919293949596979899";
 
-static __attribute__((noinline)) void put_pairs(unsigned n) {
-    if (n >= 1000) put_pairs(n / 100);
+// A number from 10 on.
+static __attribute__((noinline)) void put_long(unsigned n) {
+    if (n >= 1000) put_long(n / 100);
     else if (n >= 100) out[out_len++] = '0' + n / 100;
-    put_text(pairs + 2 * (n % 100), 2);
+    put_text(two_digits + 2 * (n % 100), 2);
 }
 
 static inline void put_number(unsigned n) {
     if (n < 10) out[out_len++] = '0' + n;
-    else put_pairs(n);
+    else put_long(n);
 }
 
 // A number that goes up by one at a time, by its digits.

@@ -11,7 +11,7 @@ static uint64_t loud[LINES]; // the octets of crossed rows that may not be idle
 // for each port in a room where its member is read, if it is heard, and where the room's mix goes. It follows `crossed_by`,
 // the slots of the places when the octets were crossed. A change alters it in its own frame and in the two behind that.
 static Row crossed_by[LINES], read_from[LINES];
-static SlotRow read_at[LINES]; // for each internal slot the place where it is heard
+static SlotRow read_at[LINES]; // for each internal slot the place that hears it
 static uint32_t hearing[LINES];
 static Lines heard_on;
 static struct { uint16_t from, to; int16_t heard; uint8_t room; } members[BRIDGES * PLACES]; // two octets by their offsets
@@ -124,7 +124,7 @@ static inline void cross_all(const unsigned slots) {
     crossed_to = to_on;
 }
 
-// The same, path by path, for few lines that send.
+// The same for few lines that send, path by path.
 static void cross_few(Lines speaking) {
     for (Lines some = crossed_to; some;) silence(next_line(&some));
     crossed_to = 0;
@@ -139,7 +139,8 @@ static void cross_few(Lines speaking) {
     }
 }
 
-// The loops have a fixed length. The highways of lines that send nothing count only where all lines are crossed.
+// Few lines send if all lines that are sent to are at least twice as many. Otherwise the highways of lines that send
+// nothing count too. The loops have a fixed length.
 static void cross(Row *filled, Lines sent) {
     Lines speaking = from_on & sent;
     if (slots == PLACES) fill_highways(filled, speaking, PLACES);
@@ -202,7 +203,7 @@ static void send(void) {
     }
 }
 
-// What is read out, and by which slots it was crossed, follow the changes.
+// What is read out follows the changes, and then the slots by which this frame is crossed.
 static void follow_changes(Row *filling) {
     unsigned now = frame_number % CHANGES;
     Lines some = changed_on[now] | changed_on[(frame_number - 1) % CHANGES] | changed_on[(frame_number - 2) % CHANGES];

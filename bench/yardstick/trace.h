@@ -161,8 +161,9 @@ static void append_frame(unsigned count) {
     row_count += count;
 }
 
-// What follows up to read_part(), and the two functions like it, read a line with single spaces and no fault, and answer
-// where the next line begins. Any other line is NULL, and read word by word. Zeros behind a part of the trace end each of them.
+// Most lines are plain: they have single spaces and no fault. read_plain() and the functions that it calls read such a
+// line, and answer where the next one begins. For any other line they answer NULL, and read_line() reads it word by word.
+// They never pass the zeros behind a part of the trace.
 
 // A number of one or two digits without a leading zero; too great where there is none.
 static inline const uint8_t *read_plain_number(const uint8_t *p, unsigned *n) {
