@@ -15,6 +15,7 @@ use std::thread::Threads;
 /// # Errors
 ///
 /// [`AllocError`] if an allocation fails.
+#[inline(always)]
 pub fn ready_linked<P: Fabric, C: Carrier, R: Threads + Sync>(
     rt: &R,
     alloc: Global,
@@ -31,7 +32,8 @@ pub fn ready_linked<P: Fabric, C: Carrier, R: Threads + Sync>(
     Ok(())
 }
 
-// Makes the exchange of a heading with data links.
+// Makes the exchange of a heading with data links. It is a separate function as `open_into` is.
+#[inline(never)]
 fn open_linked_into<P: Fabric, C: Carrier, R: Threads + Sync>(
     rt: &R,
     alloc: Global,

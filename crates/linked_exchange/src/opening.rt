@@ -36,6 +36,7 @@ fn opened<P: Fabric, C: Carrier>(
 /// # Errors
 ///
 /// [`AllocError`] if an allocation fails.
+#[inline(always)]
 pub fn ready<P: Fabric, C: Carrier>(
     alloc: Global,
     heading: &Heading,
@@ -53,6 +54,7 @@ pub fn ready<P: Fabric, C: Carrier>(
 
 // Makes the exchange of a heading. A separate function holds it, because a function clears its locals whenever it is
 // entered, and `ready` is entered at each event.
+#[inline(never)]
 fn open_into<P: Fabric, C: Carrier>(
     alloc: Global,
     heading: &Heading,
