@@ -71,16 +71,20 @@ pub cut_before : (text p rest : List ℕ) (start end k : ℕ) → drop start tex
 cut_before text p rest start end k written behind within cut =
     take-take (end - start) k (drop start text) (omega arith) ∙ written_before text p rest start end written behind within
 
--- a word, the number of a line, and digits
-pub near_line : (t0 t1 t2 t3 word line digits : List ℕ) (s start n k : ℕ) → length t0 ≡ 48 → length t1 ≡ 48 → length t3 ≡ 48 → take (9 + n) t1 ≡ take 9 t0 ++ digits → n ≤ 32
-    → drop s t2 ≡ 32 ∷ (line ++ 58 ∷ [] ++ drop 9 t1) → drop start t3 ≡ word ++ drop s t2 → start ≤ 9 → k ≡ 41
-    → take (9 + n - start) (take k (drop start t3)) ≡ word ++ 32 ∷ (line ++ 58 ∷ [] ++ digits)
-near_line t0 t1 t2 t3 word line digits s start n k l0 l1 l3 written few numbered worded within cut =
-    let nine : length (take 9 t0) ≡ 9 = length-take-le 9 t0 (omega (arith, l0)) in
-    let rest : List ℕ = drop (9 + n) t1 in
-    let behind : drop 9 t1 ≡ digits ++ rest = after_front t1 (take 9 t0) digits 9 (9 + n) written nine in
+-- a word, the number of a line, and digits from a place on
+pub near_line : (t0 t1 t2 t3 word line digits : List ℕ) (size at s start n k : ℕ) → length t0 ≡ size → length t1 ≡ size → length t3 ≡ size → take (at + n) t1 ≡ take at t0 ++ digits → at + n ≤ size
+    → drop s t2 ≡ 32 ∷ (line ++ 58 ∷ [] ++ drop at t1) → drop start t3 ≡ word ++ drop s t2 → start ≤ at → at + n ≤ start + k
+    → take (at + n - start) (take k (drop start t3)) ≡ word ++ 32 ∷ (line ++ 58 ∷ [] ++ digits)
+near_line t0 t1 t2 t3 word line digits size at s start n k l0 l1 l3 written few numbered worded within cut =
+    let before : length (take at t0) ≡ at = length-take-le at t0 (omega (arith, l0, few)) in
+    let rest : List ℕ = drop (at + n) t1 in
+    let behind : drop at t1 ≡ digits ++ rest = after_front t1 (take at t0) digits at (at + n) written before in
     let all : drop start t3 ≡ (word ++ 32 ∷ (line ++ 58 ∷ [] ++ digits)) ++ rest = rw (worded, numbered, behind) (simp append_assoc refl) in
-    cut_before t3 (word ++ 32 ∷ (line ++ 58 ∷ [] ++ digits)) rest start (9 + n) k all (omega (arith, length-drop (9 + n) t1, l1, l3, few)) (omega (arith, within)) (omega (arith, cut, few))
+    cut_before t3 (word ++ 32 ∷ (line ++ 58 ∷ [] ++ digits)) rest start (at + n) k all (omega (arith, length-drop (at + n) t1, l1, l3, few)) (omega (arith, within)) (omega (arith, cut))
+
+-- a number and a word before the number of a line
+pub worded_line : (number word d1 d2 d3 : List ℕ) → d2 ≡ word ++ d1 → d3 ≡ number ++ d2 → d3 ≡ (number ++ word) ++ d1
+worded_line number word d1 d2 d3 e1 e2 = rw (e2, e1) (simp append_assoc refl)
 
 -- a number, a word and a number
 pub pair_line : (number word other rest d1 d2 d3 : List ℕ) → d1 ≡ other ++ rest → d2 ≡ word ++ d1 → d3 ≡ number ++ d2 → d3 ≡ (number ++ word ++ other) ++ rest
@@ -96,3 +100,6 @@ out_pair out number word other = simp append_assoc refl
 
 pub out_near : (out word rest : List ℕ) → out ++ (word ++ rest) ≡ out ++ word ++ rest
 out_near out word rest = sym (append_assoc out word rest)
+
+pub out_opening : (out number word rest : List ℕ) → out ++ ((number ++ word) ++ rest) ≡ out ++ number ++ word ++ rest
+out_opening out number word rest = simp append_assoc refl

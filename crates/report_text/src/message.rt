@@ -1,5 +1,5 @@
 // The line of a message, and the messages of a frame's line.
-ghost use Rattle.std.specs.Prelude.{◌≡◌, ◌++◌, ◌<◌, ◌≤◌, codes, decimal, length, take, IsTrue, OnOk};
+ghost use Rattle.std.specs.Prelude.{◌≡◌, ◌++◌, ◌<◌, ◌≤◌, codes, decimal, length, take, IsTrue, OnOk, None, Some};
 ghost use Rattle.hex.specs.Hex.{encode_upper};
 ghost use Rattle.report_text.specs.Report.{frame_messages, message_line, messages, moves, on_line};
 
@@ -19,10 +19,76 @@ pub(crate) fn put_message(
     ensures line { OnOk result (out.new.items ≡ out.old.items ++ message_line event moved sends.now) }
     ensures front { take (length out.old.items) out.new.items ≡ out.old.items }
 {
+    match moved {
+        Some((a, b)) => put_moving(out, event, a, b, sends),
+        None => put_still(out, event, sends),
+    }
+}
+
+// Appends the line of a message that moved live paths.
+fn put_moving(
+    out: &mut Vec<u8>,
+    event: u32,
+    a: u32,
+    b: u32,
+    sends: &[Signal],
+) -> Result<(), AllocError>
+    ensures line { OnOk result (out.new.items ≡ out.old.items ++ message_line event (Some (a, b)) sends.now) }
+    ensures front { take (length out.old.items) out.new.items ≡ out.old.items }
+{
     put_word(out, event, b" message")?;
-    put_moves(out, moved)?;
+    put_moved(out, a, b)?;
     put_signals(out, sends)?;
     out.extend_from_slice(b"\n")
+}
+
+// Appends the line of a message that moved no live path. The first message sent is appended with the words before it.
+#[inline(always)]
+fn put_still(out: &mut Vec<u8>, event: u32, sends: &[Signal]) -> Result<(), AllocError>
+    ensures line { OnOk result (out.new.items ≡ out.old.items ++ message_line event None sends.now) }
+    ensures front { take (length out.old.items) out.new.items ≡ out.old.items }
+{
+    match sends {
+        [] => put_word(out, event, b" message\n"),
+        [first, rest @ ..] => {
+            put_opening(out, event, usize::from(first.line), first.octets.as_slice())?;
+            put_signals(out, rest)?;
+            out.extend_from_slice(b"\n")
+        }
+    }
+}
+
+// Appends the number and the word of a message, and the first message sent.
+#[inline(always)]
+fn put_opening(out: &mut Vec<u8>, event: u32, line: usize, octets: &[u8]) -> Result<(), AllocError>
+    ensures opening { OnOk result (out.new.items ≡ out.old.items ++ decimal event ++ codes " message" ++ on_line line octets.now) }
+    ensures front { take (length out.old.items) out.new.items ≡ out.old.items }
+{
+    if is_near(line, octets) {
+        return put_near_opening(out, event, line, octets);
+    }
+    put_word(out, event, b" message")?;
+    put_far(out, line, octets)
+}
+
+// Appends the number and the word of a message, and a message sent of four to sixteen octets.
+#[inline(always)]
+fn put_near_opening(
+    out: &mut Vec<u8>,
+    event: u32,
+    line: usize,
+    octets: &[u8],
+) -> Result<(), AllocError>
+    requires { (line < 100) × (4 ≤ length octets.now) × (length octets.now ≤ 16) }
+    ensures opening { OnOk result (out.new.items ≡ out.old.items ++ decimal event ++ codes " message" ++ on_line line octets.now) }
+    ensures front { take (length out.old.items) out.new.items ≡ out.old.items }
+{
+    let mut text = [0; 86];
+    put_few_digits(&mut text, 22, octets);
+    let start = put_line_before(&mut text, 22, line);
+    let start = put_before(&mut text, start, b" message");
+    let start = put_number_before(&mut text, start, event);
+    append_front(out, &text[start..start + 64], 22 + 2 * octets.len() - start)
 }
 
 /// Appends the numbers of live paths that a connection or a seat moved, if there was one.

@@ -23,6 +23,6 @@ returns-clause-message c =
     let out : List ℕ = c.args.out.now.items in
     let line : List ℕ = 32 ∷ (decimal c.args.line ++ 58 ∷ [] ++ encode_upper c.args.octets.now) in
     let written = near_line (replicate 48 0) c.put_few_digits.new.text c.put_line_before-start.new.text text c.args.word.now (decimal c.args.line) (encode_upper c.args.octets.now)
-    c.put_line_before-start.result start (2 * length c.args.octets.now) (start + 41 - start) refl size whole c.put_few_digits.ensures.digits (omega (arith, c.requires))
-    c.put_line_before-start.ensures.written c.put_before-start.ensures.written (omega (arith, c.put_line_before-start.ensures.start, c.put_before-start.ensures.start)) (omega arith) in
+    48 9 c.put_line_before-start.result start (2 * length c.args.octets.now) (start + 41 - start) refl size whole c.put_few_digits.ensures.digits (omega (arith, c.requires))
+    c.put_line_before-start.ensures.written c.put_before-start.ensures.written (omega (arith, c.put_line_before-start.ensures.start, c.put_before-start.ensures.start)) (omega (arith, c.requires)) in
     subst (λ (l : List ℕ). OnOk c.append_front.result (c.append_front.new.out.items ≡ l)) (ap (λ l. out ++ l) written ∙ out_near out c.args.word.now line) c.append_front.ensures.front_of_text
