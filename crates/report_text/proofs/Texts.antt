@@ -103,3 +103,11 @@ out_near out word rest = sym (append_assoc out word rest)
 
 pub out_opening : (out number word rest : List ℕ) → out ++ ((number ++ word) ++ rest) ≡ out ++ number ++ word ++ rest
 out_opening out number word rest = simp append_assoc refl
+
+-- a number, a word and two numbers
+pub moving_line : (number word a b rest d1 d2 d3 d4 d5 : List ℕ) → d1 ≡ b ++ rest → d2 ≡ 32 ∷ d1 → d3 ≡ a ++ d2 → d4 ≡ word ++ d3 → d5 ≡ number ++ d4
+    → d5 ≡ (number ++ word ++ a ++ 32 ∷ b) ++ rest
+moving_line number word a b rest d1 d2 d3 d4 d5 e1 e2 e3 e4 e5 = rw (e5, e4, e3, e2, e1) (simp append_assoc refl)
+
+pub out_moving : (out number word a b : List ℕ) → out ++ (number ++ word ++ a ++ 32 ∷ b) ≡ out ++ number ++ word ++ a ++ 32 ∷ [] ++ b
+out_moving out number word a b = simp append_assoc refl

@@ -36,10 +36,30 @@ fn put_moving(
     ensures line { OnOk result (out.new.items ≡ out.old.items ++ message_line event (Some (a, b)) sends.now) }
     ensures front { take (length out.old.items) out.new.items ≡ out.old.items }
 {
-    put_word(out, event, b" message")?;
-    put_moved(out, a, b)?;
+    put_moving_opening(out, event, a, b)?;
     put_signals(out, sends)?;
     out.extend_from_slice(b"\n")
+}
+
+// Appends the number and the word of a message, and the numbers of the live paths that it moved.
+#[inline(always)]
+fn put_moving_opening(
+    out: &mut Vec<u8>,
+    event: u32,
+    first: u32,
+    second: u32,
+) -> Result<(), AllocError>
+    ensures opening { OnOk result (out.new.items
+        ≡ out.old.items ++ decimal event ++ codes " message moved " ++ decimal first ++ codes " " ++ decimal second) }
+    ensures front { take (length out.old.items) out.new.items ≡ out.old.items }
+{
+    let mut text = [0; 96];
+    let end = put_number_before(&mut text, 48, second);
+    let end = put_before(&mut text, end, b" ");
+    let end = put_number_before(&mut text, end, first);
+    let end = put_before(&mut text, end, b" message moved ");
+    let start = put_number_before(&mut text, end, event);
+    append_front(out, &text[start..start + 48], 48 - start)
 }
 
 // Appends the line of a message that moved no live path. The first message sent is appended with the words before it.
