@@ -1,5 +1,5 @@
 -- The words that a look at a row of keys gives: places with a key, and call references that are used.
-use Rattle.std.proofs.Common.{◌≡◌, ◌≢◌, ℕ, zero, suc, ◌+◌, ◌-◌, ◌*◌, ◌/◌, ◌%◌, ◌^◌, ◌<◌, ◌≤◌, Bool, true, false, List, Option, Some, None, refl, sym, ap, ◌∙◌, inl, inr, eq-eqb, arith}
+use Rattle.std.proofs.Common.{◌≡◌, ◌≢◌, ℕ, zero, suc, ◌+◌, ◌-◌, ◌*◌, ◌/◌, ◌%◌, ◌^◌, ◌<◌, ◌≤◌, true, false, List, Option, Some, None, refl, sym, ap, ◌∙◌, inl, inr, eq-eqb, arith}
 use Rattle.std.specs.Prelude.{All, IfSome, bit_or, is_none, slice_index}
 use Rattle.std.specs.Int.{bit_at, bit_not, trailing_zeros, w32}
 use Rattle.std.proofs.lemmas.Bool.{cases_lt, cases_eq, ne_eqb}
@@ -10,11 +10,11 @@ use Rattle.call_states.specs.declared.leg.Side.{Side}
 use Rattle.call_states.specs.declared.leg.Side.TheVariants.{Caller, Called}
 use Rattle.call_states.specs.declared.leg.HeldLeg.{HeldLeg}
 use Rattle.call_states.specs.Status.{FitsMessages}
-use Rattle.call_profile.specs.Legs.{Legs, held_at, leg_named, is_unused, lowest_free_reference}
+use Rattle.call_profile.specs.Legs.{Legs, leg_named, is_unused, lowest_free_reference}
 use Rattle.call_profile.proofs.LineLemmas.{unused_from, lowest_free_reference_unused_all, unused_end, unused_here, unused_other}
 use Rattle.call_profile.proofs.VacantSlotLemmas.{none_named}
-use Rattle.leg_table.specs.LegKeys.{key_named, key_by, key_of, leg_on, hit, IsRowOf, HasKey, LacksKey}
-use Rattle.leg_table.proofs.LegKeyLemmas.{named_nowhere, named_first, FitsMessages_at}
+use Rattle.leg_table.specs.LegKeys.{key_by, key_of, leg_on, hit, Hits, IsFirstKey, IsRowOf, HasKey, LacksKey}
+use Rattle.leg_table.proofs.LegKeyLemmas.{named_nowhere, FitsMessages_at}
 
 hit_same : (key here : ℕ) → here ≡ key → hit key here ≡ 1
 hit_same key here same = rw (eq-eqb here key same) refl
@@ -33,49 +33,89 @@ hit_not key here e same = omega (arith, e, hit_same key here same)
 
 -- ---- the places with a key
 
--- those below this place are found
-pub record Hits (row : List ℕ) (key count word : ℕ) : Type 0 where
-  pub found : (place : ℕ) → place < count → bit_at word place ≡ hit key (slice_index row place)
-  pub above : (place : ℕ) → count ≤ place → place < 32 → bit_at word place ≡ 0
-
-pub hits_none : (row : List ℕ) (key : ℕ) → Hits row key 0 0
-hits_none row key = record { found = λ place below. absurd (omega (arith, below)); above = λ place from near. bit_at-zero place }
-
-pub hits_here : (row : List ℕ) (key count word : ℕ) → count < 32 → Hits row key count word → slice_index row count ≡ key → Hits row key (count + 1) (bit_or word (1 * 2 ^ count % 2 ^ 32))
-hits_here row key count word near hits same = record {
-  found = λ place below. elim (cases_eq place count) [
-    | inl here ↦ rw here (bit_at_set_same w32 word count near ∙ sym (hit_same key (slice_index row count) same))
-    | inr other ↦ bit_at_set_other w32 word count near place other ∙ hits.found place (omega (arith, below, other))
-  ];
-  above = λ place from within. bit_at_set_other w32 word count near place (λ here. omega (arith, here, from)) ∙ hits.above place (omega (arith, from)) within;
+pub hits_none : (row : List ℕ) (key shift first : ℕ) → Hits row key shift first first 0
+hits_none row key shift first = record {
+  range = omega arith;
+  found = λ place from near. absurd (omega (arith, from, near));
+  below = λ bit under. bit_at-zero bit;
+  above = λ bit from within. bit_at-zero bit;
 }
 
-pub hits_other : (row : List ℕ) (key count word : ℕ) → count < 32 → Hits row key count word → slice_index row count ≢ key → Hits row key (count + 1) word
-hits_other row key count word near hits apart = record {
-  found = λ place below. elim (cases_eq place count) [
-    | inl here ↦ rw here (hits.above count (omega arith) near ∙ sym (hit_other key (slice_index row count) apart))
-    | inr other ↦ hits.found place (omega (arith, below, other))
+pub hits_here : (row : List ℕ) (key shift first count at word : ℕ) → at < 32 → at ≡ shift + count → Hits row key shift first count word → slice_index row count ≡ key
+    → Hits row key shift first (count + 1) (bit_or word (1 * 2 ^ at % 2 ^ 32))
+hits_here row key shift first count at word near is hits same = record {
+  range = omega (arith, hits.range);
+  found = λ place from under. elim (cases_eq place count) [
+    | inl here ↦
+        ap (bit_at (bit_or word (1 * 2 ^ at % 2 ^ 32))) (let e : shift + place ≡ at = omega (arith, here, is) in e) ∙ bit_at_set_same w32 word at near
+        ∙ sym (hit_same key (slice_index row place) (ap (slice_index row) here ∙ same))
+    | inr other ↦ bit_at_set_other w32 word at near (shift + place) (λ e. other (omega (arith, e, is))) ∙ hits.found place from (omega (arith, under, other))
   ];
-  above = λ place from within. hits.above place (omega (arith, from)) within;
+  below = λ bit under. bit_at_set_other w32 word at near bit (λ here. omega (arith, here, under, is, hits.range)) ∙ hits.below bit under;
+  above = λ bit from within. bit_at_set_other w32 word at near bit (λ here. omega (arith, here, from, is)) ∙ hits.above bit (omega (arith, from)) within;
 }
 
--- what the word tells of the leg that a message is for
-module _ (legs : Legs) (line : ℕ) (row : List ℕ) (of : IsRowOf legs.held line row) (told : All (λ leg. IfSome leg FitsMessages) legs.held) (flag : Bool) (reference : ℕ) (small : reference < 2 ^ 16)
-    (word : ℕ) (fits : word < 2 ^ 32) (bits : (place : ℕ) → place < 32 → bit_at word place ≡ hit (key_named flag reference) (slice_index row place)) where
-  lacks_at : (place : ℕ) → place < 32 → bit_at word place ≡ 0 → slice_index row place ≢ key_named flag reference
-  lacks_at place near clear = hit_not (key_named flag reference) (slice_index row place) (sym (bits place near) ∙ clear)
+pub hits_other : (row : List ℕ) (key shift first count word : ℕ) → shift + count < 32 → Hits row key shift first count word → slice_index row count ≢ key → Hits row key shift first (count + 1) word
+hits_other row key shift first count word near hits apart = record {
+  range = omega (arith, hits.range);
+  found = λ place from under. elim (cases_eq place count) [
+    | inl here ↦ rw here (hits.above (shift + count) (omega arith) near ∙ sym (hit_other key (slice_index row count) apart))
+    | inr other ↦ hits.found place from (omega (arith, under, other))
+  ];
+  below = hits.below;
+  above = λ bit from within. hits.above bit (omega (arith, from)) within;
+}
 
-  pub leg_named_word_none : word ≡ 0 → leg_named legs line flag reference ≡ None
-  leg_named_word_none empty = named_nowhere legs line row of told flag reference small (λ place below. lacks_at place (omega (arith, below)) (ap (λ n. bit_at n place) empty ∙ bit_at-zero place))
+-- what the words of both halves tell of the first place with the key
+module _ (row : List ℕ) (key : ℕ) where
+  hit_at : (shift first count word place at : ℕ) → Hits row key shift first count word → first ≤ place → place < count → at ≡ shift + place → bit_at word at ≡ 1 → slice_index row place ≡ key
+  hit_at shift first count word place at hits from under is set = hit_is key (slice_index row place) (sym (hits.found place from under) ∙ ap (bit_at word) (sym is) ∙ set)
 
-  pub word_first : 0 < word → (trailing_zeros w32 word < 32) × (leg_named legs line flag reference ≡ held_at legs (record { line = line; place = trailing_zeros w32 word }))
-  word_first some =
-      let first = bit_at-trailing_zeros w32 word some fits in (
-        first.0,
-        named_first legs line row of told flag reference small (trailing_zeros w32 word) first.0
-            (hit_is (key_named flag reference) (slice_index row (trailing_zeros w32 word)) (sym (bits (trailing_zeros w32 word) first.0) ∙ first.1))
-            (λ place below. lacks_at place (omega (arith, below, let last = first.0 in last)) (first.2 place below)),
+  lacks_at : (shift first count word place at : ℕ) → Hits row key shift first count word → first ≤ place → place < count → at ≡ shift + place → bit_at word at ≡ 0 → slice_index row place ≢ key
+  lacks_at shift first count word place at hits from under is clear = hit_not key (slice_index row place) (sym (hits.found place from under) ∙ ap (bit_at word) (sym is) ∙ clear)
+
+  past_half : (shift first count word at : ℕ) → shift + first ≡ 16 → Hits row key shift first count word → bit_at word at ≡ 1 → 16 ≤ at
+  past_half shift first count word at sum hits set = elim (cases_lt at 16) [
+    | inl under ↦ absurd (omega (arith, set, hits.below at (omega (arith, under, sum))))
+    | inr past ↦ omega (arith, past)
+  ]
+
+  pub lower_lacks : (word : ℕ) → Hits row key 16 0 16 word → word ≡ 0 → (place : ℕ) → place < 16 → slice_index row place ≢ key
+  lower_lacks word hits empty place under = lacks_at 16 0 16 word place (16 + place) hits (omega arith) under refl (ap (λ n. bit_at n (16 + place)) empty ∙ bit_at-zero (16 + place))
+
+  lower_first_at : (word at : ℕ) → Hits row key 16 0 16 word → at < 32 → bit_at word at ≡ 1 → ((place : ℕ) → place < at → bit_at word place ≡ 0) → (16 ≤ at) × IsFirstKey row key (at - 16)
+  lower_first_at word at hits near set none =
+      let from : 16 ≤ at = past_half 16 0 16 word at refl hits set in (
+        from,
+        (
+          omega (arith, near),
+          hit_at 16 0 16 word (at - 16) at hits (omega arith) (omega (arith, near, from)) (omega (arith, from)) set,
+          λ other under. lacks_at 16 0 16 word other (16 + other) hits (omega arith) (omega (arith, under, near)) refl (none (16 + other) (omega (arith, under))),
+        ),
       )
+
+  pub lower_first : (word : ℕ) → word < 2 ^ 32 → Hits row key 16 0 16 word → 0 < word → (16 ≤ trailing_zeros w32 word) × IsFirstKey row key (trailing_zeros w32 word - 16)
+  lower_first word fits hits some = let first = bit_at-trailing_zeros w32 word some fits in lower_first_at word (trailing_zeros w32 word) hits first.0 first.1 first.2
+
+  module _ (lacks : (place : ℕ) → place < 16 → slice_index row place ≢ key) (word : ℕ) (hits : Hits row key 0 16 32 word) where
+    upper_lacks_at : (place : ℕ) → place < 32 → bit_at word place ≡ 0 → slice_index row place ≢ key
+    upper_lacks_at place under clear = elim (cases_lt place 16) [
+      | inl lower ↦ lacks place lower
+      | inr past ↦ lacks_at 0 16 32 word place place hits (omega (arith, past)) under (omega arith) clear
+    ]
+
+    pub upper_lacks : word ≡ 0 → LacksKey row key
+    upper_lacks empty place under = upper_lacks_at place under (ap (λ n. bit_at n place) empty ∙ bit_at-zero place)
+
+    upper_first_at : (at : ℕ) → at < 32 → bit_at word at ≡ 1 → ((place : ℕ) → place < at → bit_at word place ≡ 0) → IsFirstKey row key at
+    upper_first_at at near set none = (
+      near,
+      hit_at 0 16 32 word at at hits (past_half 0 16 32 word at refl hits set) near (omega arith) set,
+      λ other under. upper_lacks_at other (omega (arith, under, near)) (none other under),
+    )
+
+    pub upper_first : word < 2 ^ 32 → 0 < word → IsFirstKey row key (trailing_zeros w32 word)
+    upper_first fits some = let first = bit_at-trailing_zeros w32 word some fits in upper_first_at (trailing_zeros w32 word) first.0 first.1 first.2
 
 -- ---- the call references that are used
 

@@ -1,6 +1,7 @@
 -- The keys by which the legs of a line are found. Source: ITU-T Q.931 (05/98), 4.3, for call references and their flag;
 -- the rest is this project's.
 use Rattle.std.specs.Prelude.{◌≡◌, ◌≢◌, ℕ, ◌+◌, ◌*◌, ◌^◌, ◌<◌, ◌≤◌, ◌==◌, Bool, true, false, List, length, All, IfSome, Option, Some, None, slice_index, slice_index_or, if◌then◌else◌}
+use Rattle.std.specs.Int.{bit_at}
 use Rattle.call_states.specs.declared.leg.Leg.{Leg}
 use Rattle.call_states.specs.declared.leg.Side.{Side}
 use Rattle.call_states.specs.declared.leg.Side.TheVariants.{Caller, Called}
@@ -57,3 +58,14 @@ HasKey row key = (place : ℕ) × (place < 32) × (slice_index row place ≡ key
 
 abbrev pub LacksKey : List ℕ → ℕ → Type 0
 LacksKey row key = (place : ℕ) → place < 32 → slice_index row place ≢ key
+
+-- a place is the first of a row that has the key
+abbrev pub IsFirstKey : List ℕ → ℕ → ℕ → Type 0
+IsFirstKey row key place = (place < 32) × (slice_index row place ≡ key) × ((other : ℕ) → other < place → slice_index row other ≢ key)
+
+-- a word marks those places from the first one, and below count, that have the key; the bit of a place is shifted
+pub record Hits (row : List ℕ) (key shift first count word : ℕ) : Type 0 where
+  pub range : first ≤ count
+  pub found : (place : ℕ) → first ≤ place → place < count → bit_at word (shift + place) ≡ hit key (slice_index row place)
+  pub below : (bit : ℕ) → bit < shift + first → bit_at word bit ≡ 0
+  pub above : (bit : ℕ) → shift + count ≤ bit → bit < 32 → bit_at word bit ≡ 0

@@ -16,7 +16,7 @@ use std::marker::Model;
 /// The legs by the slots that they hold. Contracts see for each external slot, by its number, the leg that
 /// holds it.
 ///
-/// Each line has a row of keys, by which a message finds its leg in one pass without a branch. Each place has a frame
+/// Each line has a row of keys, by which a message finds its leg in loops without a branch. Each place has a frame
 /// before which no leg there is due. Contracts see neither, so a proof about a table of legs does not mention keys.
 #[derive(Debug, Drop)]
 pub(crate) struct KeyedLegs {

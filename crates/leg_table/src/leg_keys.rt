@@ -1,7 +1,7 @@
 //! The keys by which the legs of a line are found, and scans of a row of them.
-ghost use Rattle.std.specs.Prelude.{◌≡◌, ℕ, ◌+◌, ◌^◌, ◌<◌, length, slice_index};
+ghost use Rattle.std.specs.Prelude.{◌≡◌, ℕ, ◌+◌, ◌^◌, ◌<◌, length, None, IfSome};
 ghost use Rattle.std.specs.Int.{bit_at};
-ghost use Rattle.leg_table.specs.LegKeys.{key_by, key_named, hit, HasKey, LacksKey};
+ghost use Rattle.leg_table.specs.LegKeys.{key_by, key_named, Hits, HasKey, IsFirstKey, LacksKey};
 
 use call_states::{Leg, Side};
 
@@ -32,13 +32,49 @@ pub(crate) fn key_of(leg: Leg) -> u32
     }
 }
 
-/// Returns the places of a row that have a key, each a bit of a word.
-pub(crate) fn places_with(row: &[u32], key: u32) -> u32
+/// Returns the first place of a row that has a key, or `None` if no place has it. Examines the second half of the row
+/// only if the first half lacks the key.
+#[inline(always)]
+pub(crate) fn first_place_with(row: &[u32], key: u32) -> Option<u8>
     requires row { length row.now ≡ 32 }
-    ensures { (place : ℕ) → place < 32 → bit_at result place ≡ hit key (slice_index row.now place) }
+    ensures found { IfSome result (IsFirstKey row.now key) }
+    ensures none { result ≡ None → LacksKey row.now key }
+{
+    let lower = lower_places(row, key);
+    if lower != 0 {
+        return Some(lower.trailing_zeros() as u8 - 16);
+    }
+    let upper = upper_places(row, key);
+    if upper == 0 {
+        return None;
+    }
+    Some(upper.trailing_zeros() as u8)
+}
+
+// Returns the places of the first half of a row that have a key, each a bit of a word, from bit 16 on. No place has bit
+// 0, because a loop that sets it does not become vector code as a whole.
+#[inline(always)]
+fn lower_places(row: &[u32], key: u32) -> u32
+    requires row { length row.now ≡ 32 }
+    ensures { Hits row.now key 16 0 16 result }
 {
     let mut places = 0;
-    for place in 0..32 {
+    for place in 0..16 {
+        if row[place] == key {
+            places |= 1 << (16 + place);
+        }
+    }
+    places
+}
+
+// Returns the places of the second half of a row that have a key, each a bit of a word.
+#[inline(always)]
+fn upper_places(row: &[u32], key: u32) -> u32
+    requires row { length row.now ≡ 32 }
+    ensures { Hits row.now key 0 16 32 result }
+{
+    let mut places = 0;
+    for place in 16..32 {
         if row[place] == key {
             places |= 1 << place;
         }

@@ -14,7 +14,7 @@ ghost use Rattle.call_profile.specs.Legs.{no_legs, leg_at, pending_at, kept_at, 
 ghost use Rattle.leg_table.specs.declared.notes.SlotData.TheVariants as A_datum;
 
 use crate::keyed_legs::KeyedLegs;
-use crate::leg_keys::{key_named, places_with, references_in};
+use crate::leg_keys::{first_place_with, key_named, references_in};
 use crate::notes::SlotData;
 use call_states::{Condition, HeldLeg, Leg, Pending};
 use call_timers::Timers;
@@ -221,15 +221,12 @@ impl LegTable {
     }
 
     /// Returns the leg of a line that a message with this flag and call reference value is for.
+    #[inline(always)]
     pub fn find(&self, line: u8, flag: bool, reference: u16) -> Option<HeldLeg>
         requires line { 30 * line + 30 ≤ length self.now.held }
         ensures { result ≡ leg_named self.now line flag reference }
     {
-        let places = places_with(self.row(line), key_named(flag, reference));
-        if places == 0 {
-            return None;
-        }
-        let place = places.trailing_zeros() as u8;
+        let place = first_place_with(self.row(line), key_named(flag, reference))?;
         self.held(Slot { line, place })
     }
 
