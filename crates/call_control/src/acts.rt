@@ -68,7 +68,7 @@ impl<P: PathMap> CallControl<P> {
     }
 
     /// Returns the other leg of a call, if there is one.
-    #[inline(never)]
+    #[inline(always)]
     pub(crate) fn peer_of(&self, peer: Peer) -> Option<HeldLeg>
         ensures { result ≡ peer_of self.now.legs peer }
     {
