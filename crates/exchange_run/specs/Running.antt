@@ -11,7 +11,7 @@ use Rattle.exchange_core.specs.Working.{Entry}
 use Rattle.exchange_events.specs.declared.trace.Trace.{Trace}
 use Rattle.frame_engine.specs.declared.carrier.Carrier.{Ghosts as CarrierMembers}
 use Rattle.call_profile.specs.Step.{run, events_of, MovesAtMost}
-use Rattle.segment_run.specs.Segment.{new_events}
+use Rattle.segment_run.specs.Segment.{AddsAnswers, new_events}
 use Rattle.call_processor.specs.Borrowed.{Borrowed}
 use Rattle.call_processor.specs.Frames.{IsReady, Plays}
 use Rattle.call_processor.specs.declared.worked.Placed.{Placed}
@@ -70,6 +70,12 @@ AddsText plays l board v w before after = text_of after ≡ text_of before ++ li
 -- the lines belong to some answers
 abbrev pub AreOfAnswers : Listing → List Line → Type 0
 AreOfAnswers l lines = (answers : List Placed) × (lines ≡ map (line_of l) answers)
+
+-- if the lines before belong to answers, the lines after belong to these and to the answers to the new events of the
+-- history
+abbrev pub AddsAnswerLines : Plays → Listing → Trace → Board → SeatKnowledge → SeatKnowledge → List Line → List Line → Type 0
+AddsAnswerLines plays l trace board v w before after =
+    (kept : List Placed) → before ≡ map (line_of l) kept → AddsAnswers (λ k answers. k ≡ map (line_of l) answers) plays (table_of trace.tones) board v w kept after
 
 -- the lines belong to some answers; a segment added the lines of the new events of the history, and their calls; few
 -- paths were moved in them

@@ -1,19 +1,17 @@
 //! The segments of a run, and the text of each.
-ghost use Rattle.std.specs.Prelude.{◌≡◌, ◌⊎◌, ◌*◌, ◌<◌, ◌≤◌, ◌++◌, [], List, length, map, IsSome, OnOk, OnErr};
+ghost use Rattle.std.specs.Prelude.{◌≡◌, ◌⊎◌, ◌*◌, ◌<◌, ◌≤◌, ◌++◌, [], length, IsSome, OnOk, OnErr};
 ghost use Rattle.std.specs.Io.KnownBytes.{Appends};
 ghost use Rattle.ex_io.specs.Ends.{Rose};
 ghost use Rattle.seat_history.specs.Seats.{first_seat};
 ghost use Rattle.exchange_core.specs.Boards.{turns_of};
 ghost use Rattle.exchange_events.specs.Sound.{IsSound};
 ghost use Rattle.exchange_core.specs.Working.{order_of};
-ghost use Rattle.tone_rules.specs.Tables.{table_of};
-ghost use Rattle.call_processor.specs.declared.worked.Placed.{Placed};
-ghost use Rattle.segment_run.specs.Segment.{AddsAnswers, IsChief, MayRun, Ran, RanWhole};
+ghost use Rattle.segment_run.specs.Segment.{IsChief, MayRun, Ran, RanWhole};
 ghost use Rattle.segment_run.specs.Segments.{IsDoneBelow};
-ghost use Rattle.report_lines.specs.Lines.{line_of, text_of};
+ghost use Rattle.report_lines.specs.Lines.{text_of};
 ghost use Rattle.run_verifier.specs.declared.ending.Ending.TheVariants.{WriteFailed};
 ghost use Rattle.exchange_run.specs.Outcomes.{IsFlushed};
-ghost use Rattle.exchange_run.specs.Running.{AreOfAnswers, GrowthIsTold, HasMachine, IsAdded, RunsOn, ending_of, run_part};
+ghost use Rattle.exchange_run.specs.Running.{AddsAnswerLines, AreOfAnswers, GrowthIsTold, HasMachine, IsAdded, RunsOn, ending_of, run_part};
 ghost use Rattle.ex_io.specs.Streams.{AppendsFront};
 ghost use Rattle.linked_exchange.specs.Telling.{AreTold, AreToldFront};
 
@@ -186,8 +184,8 @@ fn run_one<
     ensures chief { IsChief (turns_of (B.board cx.now.board.now)) (B.known seat.new) }
     ensures ran { Ran cx.now.trace.now segment (B.known seat.old) (B.known seat.new) }
     ensures whole { OnOk result (RanWhole cx.now.trace.now segment (B.known seat.old) (B.known seat.new)) }
-    ensures answered { OnOk result ((kept : List Placed) → lines.old ≡ map (line_of L.listing) kept
-        → AddsAnswers (λ k answers. k ≡ map (line_of L.listing) answers) C.plays (table_of cx.now.trace.now.tones) (B.board cx.now.board.now) (B.known seat.old) (B.known seat.new) kept lines.new) }
+    ensures answered { OnOk result (AddsAnswerLines C.plays L.listing cx.now.trace.now (B.board cx.now.board.now)
+        (B.known seat.old) (B.known seat.new) lines.old lines.new) }
     ensures ready { OnOk result (HasMachine C.Carrier (B.board cx.now.board.now) (B.known seat.new).seen carried.new) }
 {
     if cx.gate.apart() || !is_short(cx.trace, segment) {
@@ -229,8 +227,8 @@ fn run_long<
     ensures chief { IsChief (turns_of (B.board cx.now.board.now)) (B.known seat.new) }
     ensures ran { Ran cx.now.trace.now segment (B.known seat.old) (B.known seat.new) }
     ensures whole { OnOk result (RanWhole cx.now.trace.now segment (B.known seat.old) (B.known seat.new)) }
-    ensures answered { OnOk result ((kept : List Placed) → lines.old ≡ map (line_of L.listing) kept
-        → AddsAnswers (λ k answers. k ≡ map (line_of L.listing) answers) C.plays (table_of cx.now.trace.now.tones) (B.board cx.now.board.now) (B.known seat.old) (B.known seat.new) kept lines.new) }
+    ensures answered { OnOk result (AddsAnswerLines C.plays L.listing cx.now.trace.now (B.board cx.now.board.now)
+        (B.known seat.old) (B.known seat.new) lines.old lines.new) }
     ensures ready { OnOk result (HasMachine C.Carrier (B.board cx.now.board.now) (B.known seat.new).seen carried.new) }
 {
     let SegmentResources {
