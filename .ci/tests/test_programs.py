@@ -198,6 +198,8 @@ class Programs(unittest.TestCase):
         self.assert_fits()
         record = json.loads((self.copy.folder / "crates/low/out/low.sources").read_text())
         self.assertEqual([*record["crates"]], ["low"])
+        self.assertEqual(self.copy.run(".ci/built", "tst"), (0, f"{self.program}\n", ""))
+        self.assertEqual(self.copy.run(".ci/built", "low").status, 2)
         self.copy.write("crates/beside/src/lib.rt", "another\n")
         said = "built: a source changed while `rt ci` ran\n"
         self.assertEqual(self.copy.run(".ci/built", "--record", total), (1, "", said))

@@ -117,8 +117,18 @@ class Built:
         return f"was built {difference}" if difference else None
 
 
-def program_in(folder: Path) -> Built:
-    return Built(folder / "tst", folder / "tst.sources")
+def program_in(folder: Path, name: str = "tst") -> Built:
+    return Built(folder / name, folder / f"{name}.sources")
+
+
+def program_of(crate: str) -> Built:
+    """The program that `rt ci` leaves."""
+    return program_in(TOP / "crates" / crate / "out", crate)
+
+
+def programs() -> list[str]:
+    """The crates that are programs."""
+    return [crate.name for crate in read_crates() if (TOP / "crates" / crate.name / "src" / "main.rt").is_file()]
 
 
 INSTALLED = Built(HOME.parent.parent / "bin" / "tst", HOME / "tst.sources")  # which tools/install has copied

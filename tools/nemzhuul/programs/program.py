@@ -14,12 +14,12 @@ from pathlib import Path
 from typing import Optional
 
 from nemzhuul.command_line import NAME, Refused, say
-from nemzhuul.programs.built import INSTALLED, IS_INSTALLED, PROVED_PARTS, UNPROVED_PARTS, Sources, program_in, sources_of
+from nemzhuul.programs.built import INSTALLED, IS_INSTALLED, PROVED_PARTS, UNPROVED_PARTS, Sources, program_in, program_of, sources_of
 from nemzhuul.repository.crates import TOP
 from nemzhuul.traces.events import MAX_BYTES, MAX_EVENTS, Reply, Sent
 from nemzhuul.traces.reading import METER, reply
 
-BUILT = INSTALLED if IS_INSTALLED else program_in(TOP / "crates" / "tst" / "out")  # proved
+BUILT = INSTALLED if IS_INSTALLED else program_of("tst")  # proved
 BUILT_UNPROVED = program_in(TOP / "tools" / "out")
 PROGRAM, UNPROVED = BUILT.file, BUILT_UNPROVED.file
 NAMED = PROGRAM if IS_INSTALLED else PROGRAM.relative_to(TOP)  # in a text
