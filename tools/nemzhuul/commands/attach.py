@@ -285,7 +285,7 @@ class Live:
             ask_for_realtime()
         for writer in writers:
             writer.begin()
-        words = [program, "follow", *options.flags]
+        words: list[str | Path] = [program, "follow", *options.flags]
         self.exchange = self.make_exchange(words, report)
         ends.callback(self.exchange.kill)
         if self.follower is not None:
