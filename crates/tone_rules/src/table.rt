@@ -12,8 +12,5 @@ pub fn tone_octet(tones: &Tones, kind: Kind, frames: u32) -> u8
     requires { IsGiven tones.now kind }
     ensures { result ≡ tone_octet (table_of tones.now kind) frames }
 {
-    match kind {
-        Kind::Ringback => tones.ringback.octet(frames),
-        Kind::Busy => tones.busy.octet(frames),
-    }
+    tones.get(kind).octet(frames)
 }

@@ -57,24 +57,48 @@ pub struct Tones {
 }
 
 impl Tones {
-    ghost use Rattle.std.specs.Prelude.{◌≡◌, ◌↔◌, IsTrue};
-    ghost use Rattle.tone_rules.specs.Tables.{IsGiven};
+    ghost use Rattle.std.specs.Prelude.{◌≡◌, ◌↔◌, ℕ, IsTrue};
+    ghost use Rattle.tone_rules.specs.Tables.{IsGiven, no_tones, table_of, with_octets};
     ghost use Rattle.tone_rules.specs.CallTones.{is_given};
+
+    /// Returns the octets of a tone. A tone that is not given has none.
+    pub fn get(&self, kind: Kind) -> &ToneOctets
+        ensures { result.now ≡ table_of self.now kind }
+    {
+        match kind {
+            Kind::Ringback => &self.ringback,
+            Kind::Busy => &self.busy,
+        }
+    }
+
+    /// Stores the octets of a tone.
+    pub fn set(&mut self, kind: Kind, octets: ToneOctets)
+        ensures { self.new ≡ with_octets self.old kind octets }
+    {
+        match kind {
+            Kind::Ringback => self.ringback = octets,
+            Kind::Busy => self.busy = octets,
+        }
+    }
 
     /// Returns whether the trace gives a tone. A tone that is not given has no octets.
     pub fn is_given(&self, kind: Kind) -> bool
         ensures given { IsTrue result ↔ IsGiven self.now kind }
         ensures computed { result ≡ is_given self.now kind }
     {
-        let tone = match kind {
-            Kind::Ringback => &self.ringback,
-            Kind::Busy => &self.busy,
-        };
-        !tone.as_slice().is_empty()
+        !self.get(kind).as_slice().is_empty()
+    }
+
+    /// Returns whether no tone is given.
+    pub fn is_empty(&self) -> bool
+        ensures { IsTrue result ↔ ((kind : Kind) → ¬ IsGiven self.now kind) }
+    {
+        !self.is_given(Kind::Ringback) && !self.is_given(Kind::Busy)
     }
 
     /// Returns tones of which none is given.
     pub fn empty(alloc: Global) -> Tones
+        ensures none { result ≡ no_tones }
         ensures ringback { result.ringback ≡ [] }
         ensures busy { result.busy ≡ [] }
     {
