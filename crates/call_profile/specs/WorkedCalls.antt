@@ -8,6 +8,7 @@ use Rattle.circuit_model.specs.declared.circuit.Kind.TheVariants.{Ringback, Busy
 use Rattle.number_plan.specs.declared.target.Target.TheVariants as target
 use Rattle.call_timers.specs.Expiries.{usual}
 use Rattle.tone_rules.specs.declared.tones.Tones.{Tones}
+use Rattle.tone_rules.specs.Tables.{no_tones, with_octets}
 use Rattle.exchange_events.specs.declared.record.CallRecord.{CallRecord}
 use Rattle.exchange_events.specs.declared.record.Party.TheVariants as party
 use Rattle.exchange_events.specs.declared.reply.Reply.{Reply}
@@ -21,7 +22,7 @@ use Rattle.call_profile.specs.World.{start}
 
 -- no tone is given
 abbrev pub silent : Tones
-silent = record { ringback = []; busy = [] }
+silent = no_tones
 
 -- an exchange of two lines with number 101 of line 1, and an exchange of a single line with number 30 of room 0
 abbrev pub two_lines : Setting
@@ -293,7 +294,7 @@ restart_of_one_answered =
 
 -- the two lines again, with both tones
 abbrev pub sounding_lines : Setting
-sounding_lines = record two_lines { tones = record { ringback = 0x11 ∷ 0x22 ∷ 0x33 ∷ []; busy = 0x44 ∷ [] } }
+sounding_lines = record two_lines { tones = with_octets (with_octets no_tones Ringback (0x11 ∷ 0x22 ∷ 0x33 ∷ [])) Busy (0x44 ∷ []) }
 
 -- the circuits that exist after these events
 abbrev pub circuits_after : Setting → List Event → List Circuit

@@ -4,7 +4,7 @@ ghost use Rattle.circuit_model.specs.declared.circuit.Kind.TheVariants.{Ringback
 ghost use Rattle.q931_codec.specs.CallStates.{active, call_delivered, call_received, disconnect_indication};
 ghost use Rattle.q931_codec.specs.Causes.{normal_call_clearing, user_busy};
 ghost use Rattle.tone_rules.specs.declared.tones.Tones.{Tones};
-ghost use Rattle.tone_rules.specs.Tables.{IsGiven};
+ghost use Rattle.tone_rules.specs.Tables.{IsGiven, no_tones, with_octets};
 ghost use Rattle.tone_rules.specs.CallTones.{tone_for, tone_given};
 
 /// The tones of a few states, with worked octets.
@@ -14,8 +14,8 @@ pub fn worked_tones()
     ensures cleared { tone_for disconnect_indication normal_call_clearing ≡ None }
     ensures called { (cause : ℕ) → tone_for call_received cause ≡ None }
     ensures talking { (cause : ℕ) → tone_for active cause ≡ None }
-    ensures given { tone_given (record { ringback = 0x11 ∷ []; busy = [] }) call_delivered 0 ≡ Some Ringback }
-    ensures not_given { tone_given (record { ringback = 0x11 ∷ []; busy = [] }) disconnect_indication user_busy ≡ None }
+    ensures given { tone_given (with_octets no_tones Ringback (0x11 ∷ [])) call_delivered 0 ≡ Some Ringback }
+    ensures not_given { tone_given (with_octets no_tones Ringback (0x11 ∷ [])) disconnect_indication user_busy ≡ None }
 {}
 
 /// A tone that a slot gets has octets.
