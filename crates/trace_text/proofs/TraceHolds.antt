@@ -15,7 +15,8 @@ use Rattle.trace_text.specs.declared.said.Sizes.{Sizes}
 use Rattle.trace_text.specs.declared.said.Said.{Said}
 use Rattle.trace_text.specs.declared.said.Said.TheVariants.{Header, Numbered, Toned, Timed, Happens, Sync, Change}
 use Rattle.trace_text.specs.declared.timing.GivenTimers.{GivenTimers}
-use Rattle.trace_text.specs.TraceGrammar.{sizes_in, number_said, numbers_in, plan_of, tone_said, no_tones, timer_said, event_said, events_in, open_segment_end, ends_after, segment_ends, changes_after, changes_in, so_far}
+use Rattle.tone_rules.specs.Tables.{no_tones}
+use Rattle.trace_text.specs.TraceGrammar.{sizes_in, number_said, numbers_in, plan_of, tone_said, timer_said, event_said, events_in, open_segment_end, ends_after, segment_ends, changes_after, changes_in, so_far}
 use Rattle.trace_text.specs.TraceLines.{SoFar, reads, says, trace_limits, with_tone}
 use Rattle.trace_text.proofs.TraceParts.{says_both}
 use Rattle.trace_text.specs.TraceTimers.{no_timers, with_timer}

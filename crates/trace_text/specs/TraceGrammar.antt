@@ -4,6 +4,7 @@ use Rattle.std.specs.List.{filter_map}
 use Rattle.number_plan.specs.declared.plan.Number.{Number}
 use Rattle.number_plan.specs.Plan.{with_number}
 use Rattle.tone_rules.specs.declared.tones.Tones.{Tones}
+use Rattle.tone_rules.specs.Tables.{no_tones}
 use Rattle.exchange_events.specs.declared.trace.Trace.{Trace}
 use Rattle.exchange_events.specs.declared.trace.Event.{Event}
 use Rattle.trace_text.specs.declared.fault.Reason.{Reason}
@@ -57,9 +58,6 @@ abbrev pub tones_in : List Said → List GivenTone
 tones_in told = filter_map tone_said told
 
 -- the octets of each tone; a tone without a line has none
-abbrev pub no_tones : Tones
-no_tones = record { ringback = []; busy = [] }
-
 abbrev pub tones_of : List GivenTone → Tones
 tones_of given = fold with_tone no_tones given
 

@@ -11,6 +11,7 @@ use Rattle.number_plan.specs.declared.target.Target.{Target}
 use Rattle.number_plan.specs.declared.target.Target.TheVariants as goal
 use Rattle.number_plan.specs.Plan.{is_listed, is_number, is_number_taken}
 use Rattle.tone_rules.specs.declared.tones.Tones.{Tones}
+use Rattle.tone_rules.specs.Tables.{with_octets}
 use Rattle.tone_rules.specs.CallTones.{is_given}
 use Rattle.exchange_events.specs.declared.trace.Event.{Event}
 use Rattle.exchange_events.specs.declared.trace.Event.TheVariants.{Nail, Seat, Free, Message, LinkUp, LinkDown, RestartLine, Frame}
@@ -175,10 +176,6 @@ abbrev pub toned : Result GivenTone Reason → Result Said Reason
 toned reading = reading >>= λ t. Ok (said.Toned t)
 
 -- the tones after one more line
-abbrev pub with_octets : Tones → Tone → List ℕ → Tones
-with_octets tones Ringback octets = record tones { ringback = octets }
-with_octets tones Busy octets = record tones { busy = octets }
-
 abbrev pub with_tone : Tones → GivenTone → Tones
 with_tone tones given = with_octets tones given.kind given.octets
 

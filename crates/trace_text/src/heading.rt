@@ -14,7 +14,6 @@ use crate::plain::{ends_word, plain_frame, plain_free, plain_message, plain_nail
 use crate::said::{GivenTone, LineKind, Said, Sizes};
 use crate::timing::GivenTimers;
 use call_timers::Timers;
-use circuit_model::Kind as Tone;
 use exchange_events::{Event, Input};
 use number_plan::Plan;
 use std::alloc::{AllocError, Global};
@@ -67,10 +66,7 @@ impl Model for Heading {
 fn give(tones: &mut Tones, given: GivenTone)
     ensures { tones.new ≡ with_tone tones.old given }
 {
-    match given.kind {
-        Tone::Ringback => tones.ringback = given.octets,
-        Tone::Busy => tones.busy = given.octets,
-    }
+    tones.set(given.kind, given.octets);
 }
 
 impl Heading {
