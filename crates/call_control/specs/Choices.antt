@@ -10,6 +10,7 @@ use Rattle.q931_codec.specs.declared.message.Message.{Message}
 use Rattle.q931_codec.specs.Contents.{complete_in}
 use Rattle.q931_codec.specs.Causes.{destination_out_of_order, invalid_number_format, no_channel_available, switching_equipment_congestion, unallocated_number}
 use Rattle.q931_codec.specs.Outgoing.{encoding}
+use Rattle.call_states.specs.Status.{status}
 use Rattle.call_states.specs.declared.leg.Leg.{Leg}
 use Rattle.call_states.specs.declared.leg.HeldLeg.{HeldLeg}
 use Rattle.call_states.specs.declared.pending.Pending.{Pending}
@@ -77,6 +78,10 @@ SeatsInRoom map legs x called = (room : ℕ) → called ≡ side.Room room → (
 -- the CALL PROCEEDING to a caller
 abbrev pub proceeding_sent : Bool → Slot → Leg → Signal
 proceeding_sent first x leg = record { line = x.line; octets = encoding (call_proceeding first x leg) }
+
+-- the STATUS to the user of a leg, with this cause
+abbrev pub status_sent : HeldLeg → ℕ → Signal
+status_sent held cause = record { line = held.slot.line; octets = encoding (status held.leg cause) }
 
 -- the checks of a number in overlap sending: whether all of it are digits, its target, and whether the called side has
 -- a slot or a port

@@ -3,13 +3,13 @@ ghost use Rattle.std.specs.Prelude.{ℕ, ◌≡◌, ◌≢◌, ◌<◌, ◌≤�
 ghost use Rattle.circuit_model.specs.Extent.{IsExternal};
 ghost use Rattle.circuit_map.specs.Connections.{SameSizes, hears_at};
 ghost use Rattle.q931_codec.specs.Causes.{response_to_status_enquiry};
-ghost use Rattle.q931_codec.specs.Outgoing.{encoding, outgoing_of};
+ghost use Rattle.q931_codec.specs.Outgoing.{outgoing_of};
 ghost use Rattle.call_states.specs.Acts.{cause_of_act};
-ghost use Rattle.call_states.specs.Status.{FitsMessages, status, unexpected_cause};
+ghost use Rattle.call_states.specs.Status.{FitsMessages, unexpected_cause};
 ghost use Rattle.call_states.specs.declared.act.Act.TheVariants as asked;
 ghost use Rattle.q931_codec.specs.CallStates.{active};
 ghost use Rattle.call_profile.specs.ActCourse.{course_of};
-ghost use Rattle.call_control.specs.Choices.{course_of_status};
+ghost use Rattle.call_control.specs.Choices.{course_of_status, status_sent};
 ghost use Rattle.call_profile.specs.Acts.{with_progress, with_enquiry, peer_of, with_peer, disconnect, in_disconnect_indication, in_release_request, in_state, tone_of, on_alerting, on_connect, on_disconnect, on_release, remove_leg, clear_with};
 ghost use Rattle.call_control.specs.AtWork.{IsAtWork, EachAtWork};
 ghost use Rattle.call_profile.specs.Calls.{making_by, outcome_by, course_on};
@@ -169,7 +169,8 @@ impl<P: PathMap> CallControl<P> {
         requires silent { hears_at self.old.map held.now.slot ≡ None }
         requires room { length out.old.sends + 1 < max_sends }
         requires fresh { out.old.moved ≡ None }
-        ensures makes { Performs (with_peer peer.now (on_connect self.old.legs held.now)) self.old.map self.old.legs out.old self.new.map self.new.legs out.new }
+        ensures makes { Performs (with_peer peer.now (on_connect self.old.legs held.now))
+            self.old.map self.old.legs out.old self.new.map self.new.legs out.new }
         ensures few { IfSome out.new.moved (λ moves. (moves.0 ≤ self.old.map.bound) × (moves.1 ≤ self.old.map.bound)) }
         ensures sizes { SameSizes self.old.map self.new.map }
     {
@@ -328,7 +329,7 @@ impl<P: PathMap> CallControl<P> {
 fn report_unexpected(out: &mut Outbox, held: &HeldLeg, message: &Message)
     requires room { length out.old.sends < max_sends }
     requires told { FitsMessages held.now.leg }
-    ensures sends { out.new.sends ≡ out.old.sends ++ record { line = held.now.slot.line; octets = encoding (status held.now.leg (unexpected_cause message.now.kind)) } ∷ [] }
+    ensures sends { out.new.sends ≡ out.old.sends ++ status_sent held.now (unexpected_cause message.now.kind) ∷ [] }
     ensures moved { out.new.moved ≡ out.old.moved }
     ensures records { out.new.records ≡ out.old.records }
 {
@@ -340,7 +341,7 @@ fn report_unexpected(out: &mut Outbox, held: &HeldLeg, message: &Message)
 fn report_state(out: &mut Outbox, held: &HeldLeg)
     requires room { length out.old.sends < max_sends }
     requires told { FitsMessages held.now.leg }
-    ensures sends { out.new.sends ≡ out.old.sends ++ record { line = held.now.slot.line; octets = encoding (status held.now.leg response_to_status_enquiry) } ∷ [] }
+    ensures sends { out.new.sends ≡ out.old.sends ++ status_sent held.now response_to_status_enquiry ∷ [] }
     ensures moved { out.new.moved ≡ out.old.moved }
     ensures records { out.new.records ≡ out.old.records }
 {

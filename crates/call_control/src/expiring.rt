@@ -130,7 +130,8 @@ impl<P: PathMap> CallControl<P> {
         requires count { length self.old.legs.held ≡ 30 * self.old.map.external }
         requires state { is_among awaiting_answer held.now.leg.state ≡ true }
         requires room { length out.old.sends < max_sends }
-        ensures makes { Performs (send_again held.now (kept_at self.old.legs held.now.slot)) self.old.map self.old.legs out.old self.new.map self.new.legs out.new }
+        ensures makes { Performs (send_again held.now (kept_at self.old.legs held.now.slot))
+            self.old.map self.old.legs out.old self.new.map self.new.legs out.new }
         ensures few { length out.new.sends ≤ length out.old.sends + 1 }
         ensures moved { out.new.moved ≡ out.old.moved }
         ensures records { out.new.records ≡ out.old.records }

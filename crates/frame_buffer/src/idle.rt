@@ -14,20 +14,22 @@ pub fn fill_idle(row: &mut [u8])
     row.fill(IDLE);
 }
 
-/// Returns true only if all 30 octets of a row are idle.
+/// Returns whether all 30 octets of a row are idle.
 #[inline(always)]
 pub fn is_idle(row: &[u8]) -> bool
     requires { length row.now ≡ 30 }
-    ensures { IsTrue result → (at : ℕ) → at < 30 → slice_index row.now at ≡ idle_octet }
+    ensures octets { IsTrue result → (at : ℕ) → at < 30 → slice_index row.now at ≡ idle_octet }
+    ensures exact { ((at : ℕ) → at < 30 → slice_index row.now at ≡ idle_octet) → IsTrue result }
 {
     are_idle(row, 0) && are_idle(row, 14)
 }
 
-// Returns true only if 16 octets of a row, from one on, are idle. They are compared at once.
+// Returns whether 16 octets of a row, from one on, are idle. They are compared at once.
 #[inline(always)]
 fn are_idle(row: &[u8], from: usize) -> bool
     requires { from + 16 ≤ length row.now }
-    ensures { IsTrue result → (at : ℕ) → from ≤ at → at < from + 16 → slice_index row.now at ≡ idle_octet }
+    ensures octets { IsTrue result → (at : ℕ) → from ≤ at → at < from + 16 → slice_index row.now at ≡ idle_octet }
+    ensures exact { ((at : ℕ) → from ≤ at → at < from + 16 → slice_index row.now at ≡ idle_octet) → IsTrue result }
 {
     let differs = u8x16::from_slice(&row[from..]).simd_ne(u8x16::splat(IDLE));
     differs.to_bitmask() == 0

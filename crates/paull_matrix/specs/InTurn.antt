@@ -1,4 +1,5 @@
--- Moves that can be made in sequence.
+-- Moves of paths in Paull's matrix that can be made in sequence. Source: this project; the chain of moved paths is from
+-- M. C. Paull (1962), cited in Matrix.antt.
 use Rattle.std.specs.Prelude.{◌≡◌, ◌<◌, ⊤, Some, None, List, [], ◌∷◌}
 use Rattle.paull_matrix.specs.Matrix.{Matrix, row_slot, column_slot, with_path, without_path}
 use Rattle.paull_matrix.specs.declared.moves.Move.{Move}
