@@ -59,7 +59,7 @@ pub back_of : (table : List ℕ) (k : ℕ) → k < 16 → get_or (chunk 14 16 ta
 back_of table k lt = get_or-chunk 14 16 table k 0 lt
 
 module _ (octet : ℕ → ℕ) (row front back : List ℕ) (room : length row ≡ 30) (first_long : length front ≡ 16) (last_long : length back ≡ 16)
-    (one : (at : ℕ) → at < 16 → get_or front at 0 ≡ octet at) (other : (at : ℕ) → at < 16 → get_or back at 0 ≡ octet (14 + at)) where
+    (one : (at : ℕ) → at < 14 → get_or front at 0 ≡ octet at) (other : (at : ℕ) → at < 16 → get_or back at 0 ≡ octet (14 + at)) where
   half : length (take 16 row) ≡ 16
   half = length-take-le 16 row (omega (arith, room))
 
@@ -76,7 +76,7 @@ module _ (octet : ℕ → ℕ) (row front back : List ℕ) (room : length row �
   row_laid at within = elim (cases_lt at 14) [
     | inl low ↦
         get_or-put_chunk_below 14 begun back at 0 low ∙ ap (λ l. get_or l at 0) begun_is ∙ get_or_append_left front (drop 16 row) 0 at (omega (arith, first_long, low))
-        ∙ one at (omega (arith, low))
+        ∙ one at low
     | inr high ↦
         let j : ℕ = at - 14 in
         let there : 14 + j ≡ at = omega (arith, high) in

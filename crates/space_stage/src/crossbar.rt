@@ -8,6 +8,7 @@ ghost use Rattle.control_memory.specs.Image.{lines_of};
 ghost use Rattle.space_stage.specs.Crossing.{gets_by, IsCrossedPart, IsCrossed, AreStarts};
 
 use crate::overlay::{MAX_SENDERS, find_senders, lay_used};
+use crate::slotwise::{MAX_TURNED, MIN_TURNED, cross_turned};
 use control_memory::{ControlTable, Image};
 use frame_buffer::{Crossed, Highway, fill_idle};
 
@@ -59,7 +60,26 @@ fn cross_used(highway: &Highway, table: &ControlTable, slots: u8, first: u8, par
             return;
         }
     }
-    gather_used(highway, table, slots, first, part);
+    cross_many(highway, table, slots, first, part);
+}
+
+// Crosses one frame to some outgoing lines whose rows are idle. If many rows may have a number, and the part has the
+// rows of all of up to 32 lines, they are crossed slot by slot.
+fn cross_many(highway: &Highway, table: &ControlTable, slots: u8, first: u8, part: &mut [u8])
+    requires highway { highway.now.slots ≡ slots }
+    requires table { HasSize table.now highway.now.lines slots highway.now.lines }
+    requires part { IsPart highway.now.lines slots first (length part.old) }
+    requires idle { (at : ℕ) → at < length part.old → slice_index part.old at ≡ idle_octet }
+    ensures size { length part.new ≡ length part.old }
+    ensures octets { RowsHold slots (gets_by table.now highway.now) first part.new }
+{
+    let lines = highway.lines();
+    let is_whole = first == 0 && part.len() == usize::from(lines) * 30;
+    if slots == 30 && is_whole && lines <= MAX_TURNED && table.used_rows() >= MIN_TURNED {
+        cross_turned(highway, table, part);
+    } else {
+        gather_used(highway, table, slots, first, part);
+    }
 }
 
 // Crosses one frame to some outgoing lines whose rows are idle, octet by octet.

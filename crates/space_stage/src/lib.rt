@@ -11,6 +11,8 @@
 mod crossbar;
 mod overlay;
 mod shared;
+mod slotwise;
+mod turning;
 
 pub use crossbar::{cross, cross_part};
 pub use shared::{cross_shared, cross_split};

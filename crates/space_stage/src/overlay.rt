@@ -34,7 +34,7 @@ pub(crate) fn find_senders(highway: &Highway, senders: &mut [u8; MAX_SENDERS]) -
 }
 
 // Returns the octets that a line sends, by internal slot.
-fn sent_row(highway: &Highway, line: u8) -> &[u8]
+pub(crate) fn sent_row(highway: &Highway, line: u8) -> &[u8]
     requires slots { highway.now.slots ≡ 30 }
     requires line { line < highway.now.lines }
     ensures size { length result.now ≡ 30 }
