@@ -2,8 +2,9 @@
 -- transposition of a matrix by perfect shuffles, H. S. Stone, "Parallel processing with the perfect shuffle" (1971).
 use Rattle.std.specs.Prelude.{◌≡◌, ℕ, ◌+◌, ◌*◌, ◌<◌, ◌≤◌, List, [], ◌∷◌, ◌++◌, length, take, map, slice_index, slice_index_or}
 use Rattle.std.specs.List.{range_with_len}
+use Rattle.circuit_model.specs.FrameInput.{idle_octet}
 
--- the octets of two rows in turn: those of the first halves, and those of the second halves
+-- the octets of two rows in turn: first halves, and second halves
 abbrev pub first_woven : List ℕ → List ℕ → List ℕ
 first_woven a b = map (λ k. slice_index (a ++ b) k) (0 ∷ 16 ∷ 1 ∷ 17 ∷ 2 ∷ 18 ∷ 3 ∷ 19 ∷ 4 ∷ 20 ∷ 5 ∷ 21 ∷ 6 ∷ 22 ∷ 7 ∷ 23 ∷ [])
 
@@ -39,10 +40,14 @@ pub record IsSquare (rows : List (List ℕ)) : Type 0 where
 abbrev pub AreNumbers : ℕ → List ℕ → Type 0
 AreNumbers limit bytes = (at : ℕ) → limit ≤ slice_index bytes at → slice_index bytes at ≡ 255
 
--- each byte of sixteen rows is the number of one of 32 lines, or 255
+-- each byte of sixteen rows is the number of a line below 32, or 255
 abbrev pub AreTurnedNumbers : List (List ℕ) → Type 0
 AreTurnedNumbers rows = (row at : ℕ) → row < 16 → at < 16 → 32 ≤ octet_at rows row at → octet_at rows row at ≡ 255
 
--- the octets of a line: fourteen from the front, and sixteen from the back
+-- the octets of a line: fourteen of one row, and sixteen of another
 abbrev pub joined : List (List ℕ) → List (List ℕ) → ℕ → ℕ → ℕ
 joined front back line at = slice_index (take 14 (row_of front line) ++ row_of back line) at
+
+-- the octet of a line by its number, from the octets of 32 lines in two halves, slot after slot
+abbrev pub octet_by : List (List ℕ) → List (List ℕ) → ℕ → ℕ → ℕ
+octet_by low high slot number = slice_index_or (row_of low slot ++ row_of high slot) number idle_octet

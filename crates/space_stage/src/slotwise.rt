@@ -1,11 +1,10 @@
 //! The crossing of a frame slot by slot: the octets of all lines in a slot are looked up at once.
 
-ghost use Rattle.std.specs.Prelude.{◌≡◌, ℕ, ◌+◌, ◌*◌, ◌<◌, ◌≤◌, ◌++◌, length, slice_index, slice_index_or, take};
-ghost use Rattle.circuit_model.specs.FrameInput.{idle_octet};
+ghost use Rattle.std.specs.Prelude.{◌≡◌, ℕ, ◌+◌, ◌*◌, ◌<◌, ◌≤◌, ◌++◌, length, slice_index, take};
 ghost use Rattle.frame_buffer.specs.Highways.{IsPart, RowsHold, octet_on};
 ghost use Rattle.control_memory.specs.Tables.{HasSize, entry, number_in};
 ghost use Rattle.space_stage.specs.Crossing.{gets_by};
-ghost use Rattle.space_stage.specs.Turning.{square, row_of, octet_at, joined, AreNumbers, AreTurnedNumbers, IsSquare};
+ghost use Rattle.space_stage.specs.Turning.{square, octet_at, octet_by, joined, AreNumbers, AreTurnedNumbers, IsSquare};
 
 use crate::turning::{looked_up, turned};
 use control_memory::ControlTable;
@@ -127,7 +126,7 @@ fn lines_from(
 ) -> [u8x16; 16]
     requires from { from + 466 ≤ 960 }
     requires numbers { AreNumbers 32 numbers.now }
-    ensures { result ≡ square (λ line slot. slice_index_or (row_of low.now slot ++ row_of high.now slot) (slice_index numbers.now (from + line * 30 + slot)) idle_octet) }
+    ensures { result ≡ square (λ line slot. octet_by low.now high.now slot (slice_index numbers.now (from + line * 30 + slot))) }
 {
     turned(crossed(low, high, &slots_from(numbers, from)))
 }
@@ -138,7 +137,7 @@ fn lines_from(
 fn crossed(low: &[u8x16; 16], high: &[u8x16; 16], numbers: &[u8x16; 16]) -> [u8x16; 16]
     requires square { IsSquare numbers.now }
     requires numbers { AreTurnedNumbers numbers.now }
-    ensures { result ≡ square (λ slot line. slice_index_or (row_of low.now slot ++ row_of high.now slot) (octet_at numbers.now slot line) idle_octet) }
+    ensures { result ≡ square (λ slot line. octet_by low.now high.now slot (octet_at numbers.now slot line)) }
 {
     let mut octets = [u8x16::splat(0); 16];
     for k in 0..16 {
@@ -160,7 +159,7 @@ fn block(rows: &[u8], from: usize) -> [u8x16; 16]
     bytes
 }
 
-// Writes the rows of up to sixteen lines: fourteen octets from the front, and sixteen from the back.
+// Writes the rows of up to sixteen lines: fourteen octets of one row, and sixteen of another.
 #[inline(always)]
 fn put_lines(front: &[u8x16; 16], back: &[u8x16; 16], part: &mut [u8])
     requires { IsPart 16 30 0 (length part.old) }
@@ -176,7 +175,7 @@ fn put_lines(front: &[u8x16; 16], back: &[u8x16; 16], part: &mut [u8])
     }
 }
 
-// Writes the row of one line: fourteen octets from the front, and sixteen from the back.
+// Writes the row of one line: fourteen octets of one row, and sixteen of another.
 #[inline(always)]
 fn put_line(front: u8x16, back: u8x16, row: &mut [u8])
     requires { length row.old ≡ 30 }

@@ -35,7 +35,7 @@ fn round(rows: [u8x16; 16]) -> [u8x16; 16]
     ]
 }
 
-// Looks up in thirty-two octets, which are the lanes of two vectors. The number 255 gives an idle octet.
+// Looks up in 32 octets, which are the lanes of two vectors. The number 255 gives an idle octet.
 #[inline(always)]
 pub(crate) fn looked_up(low: u8x16, high: u8x16, numbers: u8x16) -> u8x16
     requires { Each1 (λ number. 32 ≤ number → number ≡ 255) numbers }
