@@ -8,6 +8,7 @@ import importlib.util
 import io
 import re
 import sys
+import tempfile
 import unittest
 from collections.abc import Sequence
 from dataclasses import dataclass
@@ -20,6 +21,7 @@ import support
 from support import TOP, InFolder
 
 SOURCE = """//! A crate.
+ghost use A.{x};
 
 /// Adds one.
 pub fn more(x: u32) -> u32
@@ -35,6 +37,12 @@ fn most(
 ) -> u32 {
     if x < y { y } else { x }
 }
+
+/// Nine is ten.
+pub fn law()
+    ensures nine { 9 ≡ 10 }
+    ensures ten { 10 ≡ 10 }
+{}
 
 trait Counts {
     fn count(&self) -> u32;
@@ -163,6 +171,29 @@ class Mutations(InFolder):
                 self.assertEqual(SCRIPT.is_in_body(SOURCE, SOURCE.replace(old, new), function), wanted)
         self.assertFalse(SCRIPT.is_in_body(f"#[cycle(a)]\n{SOURCE}", f"#[cycle(a)]\n{SOURCE}".replace("x < y", "x > y"), "most"))
 
+    def test_theorems(self) -> None:
+        """A change of a clause of a theorem, also with its imports, but not of another function."""
+        for function, old, new, wanted in (
+            ("law", "9 ≡ 10", "9 ≡ 11", True),
+            ("law", "ghost use A.{x};\n", "ghost use A.{x, y};\n", False),
+            ("law", "Nine is", "Ten is", False),
+            ("law", "x < y", "x > y", False),
+            ("more", "x < 9", "x < 8", False),
+            ("count", "result ≡ 7", "result ≡ 8", False),
+        ):
+            with self.subTest(function=function, old=old):
+                self.assertEqual(SCRIPT.is_in_theorem(SOURCE, SOURCE.replace(old, new), function), wanted)
+        self.assertTrue(SCRIPT.is_in_theorem(SOURCE, SOURCE.replace("{x}", "{x, y}").replace("9 ≡ 10", "9 ≡ y"), "law"))
+
+    def test_theorem_that_is_called(self) -> None:
+        """Theorems and bodies are in one copy, unless code calls the theorem: a proof may then rest on its contract."""
+        theorem = self.mutation(self.low, "law", "9 ≡ 10", "9 ≡ 11")
+        second = self.mutation(self.low, "law", "10 ≡ 10", "10 ≡ 11")
+        mutations = [theorem, second, *self.bodies(self.low)]
+        self.assertEqual(self.checks(mutations), [["low/0 low/2 low/3"], ["low/1"]])
+        Path(self.low.folder, "src", "calls.rt").write_text("fn calls() {\n    law();\n}\n")
+        self.assertEqual(self.checks(mutations), [["low/0"], ["low/1"], ["low/2 low/3"]])
+
     def test_one_crate(self) -> None:
         """Bodies of different functions are in one copy. A second mutation of a function has another, and so has a changed clause."""
         second = self.mutation(self.low, "more", "    x + 1", "    x + 2")
@@ -262,6 +293,15 @@ class EveryMutation(unittest.TestCase):
             with self.subTest(file.relative_to(TOP)):
                 _, fault = kit.read_edit(str(file), str(file.parent.parent))
                 self.assertIsNone(fault)
+
+    def test_applies_beside_others(self) -> None:
+        """Those of one copy change it one after the other."""
+        script = load_script()
+        kit = script.load_kit()
+        for copy in (copy for check in script.checks_of(kit, script.mutations_of(kit, [])) for copy in check if len(copy.mutations) > 1):
+            with self.subTest(copy.crate.name), tempfile.TemporaryDirectory() as folder:
+                script.copy_crate(kit, copy.crate, Path(folder))
+                self.assertEqual([script.spoil(kit, mutation, Path(folder))[1] for mutation in copy.mutations], [None] * len(copy.mutations))
 
 
 if __name__ == "__main__":

@@ -6,7 +6,7 @@
 //! newest epoch while the link is up. The condition is that T200 is longer than the round trip.
 //!
 //! Both links are the network side here, and each reads by `reading Network`. A link of a user has the other C/R bit in
-//! each frame, and differs in nothing else. `linked_laws` proves it (`sides_are_alike`), and the main theorem for each
+//! each frame, and differs in nothing else. `exchange_laws` proves it (`sides_are_alike`), and the main theorem for each
 //! line of a running exchange and its user (`in_order_on_a_line`).
 //!
 //! - [`in_order`]: between two establishments each message arrives at most once and in order, and a message counts as

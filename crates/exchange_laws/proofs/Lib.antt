@@ -1,0 +1,15 @@
+pub mod KnownLemmas
+pub mod FramedLemmas
+pub mod LineLemmas
+pub mod StepLemmas
+pub mod SideLemmas
+pub mod EventLemmas
+pub mod LayerLemmas
+pub mod PeerLemmas
+pub mod LastingLemmas
+pub mod LegalPathLemmas
+pub mod LaidWorldLemmas
+pub mod FollowedLayouts
+pub mod OtherLinkLemmas
+pub mod PrintedLemmas
+pub mod StoryLemmas

@@ -1,0 +1,10 @@
+pub mod Layers
+pub mod Sides
+pub mod Peers
+pub mod Lasting
+pub mod LaidOut
+pub mod Followed
+pub mod OtherLinks
+pub mod Printed
+pub mod Stories
+pub mod Worked

@@ -1,3 +1,0 @@
-mod LegalPathLemmas
-mod LaidWorldLemmas
-mod FollowedLayouts

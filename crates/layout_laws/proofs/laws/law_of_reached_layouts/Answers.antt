@@ -1,8 +1,0 @@
-use Rattle.layout_laws.proofs.LaidWorldLemmas.{joins_reached, legal_reached}
-use Rattle.layout_laws.proofs.laws.law_of_reached_layouts.Goals as goal
-
-pub returns-clause-legal : goal.returns-clause-legal
-returns-clause-legal c = legal_reached
-
-pub returns-clause-joins : goal.returns-clause-joins
-returns-clause-joins c = joins_reached

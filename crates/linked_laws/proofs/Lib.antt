@@ -1,9 +1,0 @@
-pub mod KnownLemmas
-pub mod FramedLemmas
-pub mod LineLemmas
-pub mod StepLemmas
-pub mod SideLemmas
-pub mod EventLemmas
-pub mod LayerLemmas
-pub mod PeerLemmas
-pub mod LastingLemmas

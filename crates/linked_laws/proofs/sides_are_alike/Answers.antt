@@ -1,8 +1,0 @@
-use Rattle.linked_laws.proofs.SideLemmas.{read_alike, written_alike}
-use Rattle.linked_laws.proofs.sides_are_alike.Goals as goal
-
-pub returns-clause-read : goal.returns-clause-read
-returns-clause-read c = read_alike
-
-pub returns-clause-written : goal.returns-clause-written
-returns-clause-written c = written_alike

@@ -1,4 +1,0 @@
-pub mod Layers
-pub mod Sides
-pub mod Peers
-pub mod Lasting

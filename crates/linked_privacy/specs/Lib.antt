@@ -1,2 +1,0 @@
-pub mod OtherLinks
-pub mod Worked
