@@ -8,7 +8,7 @@ use Rattle.space_stage.specs.Turning.{woven, square, octet_at, row_of, IsSquare}
 abbrev pub row_by : (ℕ → ℕ → ℕ) → ℕ → List ℕ
 row_by octet row = map (λ at. octet row at) (range_with_len 0 16)
 
--- of a square that is given by a function, both sides compute
+-- both sides compute at a square that a function gives
 pub turned_square : (octet : ℕ → ℕ → ℕ) → woven (woven (woven (woven (square octet)))) ≡ square (λ row at. octet at row)
 unfolding square
 turned_square octet = refl

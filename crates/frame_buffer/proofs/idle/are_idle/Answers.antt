@@ -24,7 +24,7 @@ returns-clause-exact c idle =
     let size = length-chunk first 16 row c.requires in
     let mask = bitmask_splat w8 (λ a b. not (eqb a b)) here 16 213 size (omega arith) in
     let none = empty_mask (map differs here) (λ lane near.
-        let in_map : lane < length here = omega (arith, near, length-map here differs) in
-        let in_chunk : lane < 16 = omega (arith, in_map, size) in
-        get_or-map differs here lane 0 false in_map ∙ ap differs (get_or-chunk first 16 row lane 0 in_chunk ∙ idle (first + lane) (omega arith) (omega (arith, in_chunk)))) in
+    let in_map : lane < length here = omega (arith, near, length-map here differs) in
+    let in_chunk : lane < 16 = omega (arith, in_map, size) in
+    get_or-map differs here lane 0 false in_map ∙ ap differs (get_or-chunk first 16 row lane 0 in_chunk ∙ idle (first + lane) (omega arith) (omega (arith, in_chunk)))) in
     ap (λ n. eqb n 0) (mask ∙ none)
