@@ -3,15 +3,15 @@ use Rattle.std.proofs.Common.{◌≡◌, ℕ, zero, suc, ◌+◌, ◌*◌, ◌/�
 use Rattle.std.specs.Prelude.{IfSome, option_and_then, ok_or}
 use Rattle.std.specs.List.{list_all}
 use Rattle.std.specs.Simd.Lanes.{Each1, zip2, pick_l, put_chunk, sel_l, mask_l, top}
-use Rattle.std.proofs.lemmas.Bool.{and_parts, agree_below_at, eqb-true, ne_eqb}
-use Rattle.std.proofs.lemmas.List.{length-drop, map-append, take-take, drop-take, drop-drop, take-append-drop, take-append-le, take_all, length-take-le, length-replicate}
+use Rattle.std.proofs.lemmas.Bool.{and_parts, agree_below_at, eqb-true, ne_eqb, leb-false, lt-leb}
+use Rattle.std.proofs.lemmas.List.{length-drop, length-map, map-append, take-take, drop-take, drop-drop, take-append-drop, take-append-le, take_all, length-take-le, length-replicate}
 use Rattle.std.proofs.lemmas.List.Folds.{list_all-append}
 use Rattle.std.proofs.lemmas.Slice.{take-put_mid}
 use borrow.Rule.Slice.PartMut.{put_mid, same_len_mid}
 use borrow.Rule.Simd.Lanes.{act2}
 use borrow.Table.Row.{s_int}
 use mir.Syntax.{wrap_add, lt, le, unsigned, mask}
-use Rattle.std.proofs.lemmas.Nat.{or_shifted}
+use Rattle.std.proofs.lemmas.Nat.{le_or_l, le_or_r, or_shifted}
 use Rattle.std.proofs.lemmas.Simd.{pick_l_whole, put_chunk_whole, mask_l-mod}
 use Rattle.trace_text.specs.declared.fault.Reason.TheVariants.{Hex}
 use Rattle.trace_text.specs.TraceFields.{digit_value, below_sixteen, is_digit, octets_written, thirty}
@@ -128,6 +128,10 @@ small_masked xs ys long alike =
     ap (λ m. eqb m 0) (mask_l-mod (beyond_l 16 xs ys) 64 (omega (arith, beyond_long 16 xs ys long alike)))
     ∙ no_bits (beyond_l 16 xs ys) ∙ small_both 16 xs ys long alike ∙ sym (list_all-append is_small xs ys)
 
+not_false : (b : Bool) → not b ≡ true → b ≡ false
+not_false true e = absurd cc
+not_false false e = refl
+
 some_small : (b : Bool) (v : ℕ) → is_some (cond b None (Some v)) ≡ not b
 some_small true v = refl
 some_small false v = refl
@@ -150,6 +154,9 @@ all_small (v ∷ vs) all =
     let both = and_parts (is_small v) (list_all is_small vs) all in
     λ i. small_some (leb 16 v) v both.0 i ∷ all_small vs both.1 i
 
+small_below : (v : ℕ) → is_small v ≡ true → v < 16
+small_below v e = leb-false 16 v (not_false (leb 16 v) e)
+
 none_is : (o : Option (List ℕ)) → is_some o ≡ false → None ≡ o
 none_is None e = refl
 none_is (Some octets) e = absurd cc
@@ -165,6 +172,35 @@ module _ (digits a b first second : List ℕ) (parts : a ++ b ≡ digits) (one :
   pub digits_none : length digits % 2 ≡ 0 → list_all is_small (first ++ second) ≡ false → None ≡ octets_written digits
   digits_none even lost =
       none_is (octets_written digits) (all_digits digits even ∙ digits_some digits ∙ ap (list_all (λ o. is_some o)) both_values ∙ smalls_some (first ++ second) ∙ lost)
+
+-- a lane of two rows is below 16 only if both values are
+small_from : (x v : ℕ) → x ≤ v → is_small v ≡ true → is_small x ≡ true
+small_from x v below e = ap not (lt-leb 16 x (omega (arith, below, small_below v e)))
+
+pub or_small : (xs ys : List ℕ) → length xs ≡ length ys → list_all is_small (zip2 bit_or xs ys) ≡ true → (list_all is_small xs ≡ true) × (list_all is_small ys ≡ true)
+or_small [] [] alike e = (refl, refl)
+or_small [] (y ∷ ys) alike e = absurd (omega (arith, alike))
+or_small (x ∷ xs) [] alike e = absurd (omega (arith, alike))
+or_small (x ∷ xs) (y ∷ ys) alike e =
+    let here = and_parts (is_small (bit_or x y)) (list_all is_small (zip2 bit_or xs ys)) e in
+    let rest = or_small xs ys (omega (arith, alike)) here.1 in (
+      (λ i. small_from x (bit_or x y) (le_or_l x y) here.0 i && rest.0 i),
+      (λ i. small_from y (bit_or x y) (le_or_r x y) here.0 i && rest.1 i),
+    )
+
+pub four_small : (a b c d : List ℕ) → length a ≡ length b → length c ≡ length d → list_all is_small (zip2 bit_or a b ++ zip2 bit_or c d) ≡ true
+    → (list_all is_small (a ++ b) ≡ true) × (list_all is_small (c ++ d) ≡ true)
+four_small a b c d one other all =
+    let both = and_parts _ _ (sym (list_all-append is_small (zip2 bit_or a b) (zip2 bit_or c d)) ∙ all) in
+    let front = or_small a b one both.0 in
+    let back = or_small c d other both.1 in (
+      list_all-append is_small a b ∙ (λ i. front.0 i && front.1 i),
+      list_all-append is_small c d ∙ (λ i. back.0 i && back.1 i),
+    )
+
+pub sixteen_values : (digits values : List ℕ) (start : ℕ) → start + 16 ≤ length digits → map digit_value (take 16 (drop start digits)) ≡ map below_sixteen values → length values ≡ 16
+sixteen_values digits values start within same =
+    sym (length-map values below_sixteen) ∙ sym (ap length same) ∙ length-map (take 16 (drop start digits)) digit_value ∙ length-take-le 16 (drop start digits) (omega (arith, length-drop start digits, within))
 
 -- ---- the octets of pairs of values, as a lane has them
 

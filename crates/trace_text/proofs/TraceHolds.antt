@@ -1,5 +1,5 @@
 -- One more line, taken into a heading and into a draft of a trace.
-use Rattle.std.proofs.Common.{◌≡◌, ℕ, ◌+◌, List, [], ◌∷◌, ◌++◌, length, Option, Some, None, Ok, refl, sym, ap, subst, ◌∙◌, append_assoc, arith}
+use Rattle.std.proofs.Common.{◌≡◌, ℕ, ◌+◌, ◌<◌, List, [], ◌∷◌, ◌++◌, length, codes, Option, Some, None, Ok, refl, sym, ap, subst, ◌∙◌, append_assoc, arith}
 use Rattle.std.specs.Prelude.{fold}
 use Rattle.std.specs.List.{cons_option, filter_map}
 use Rattle.std.proofs.lemmas.List.{append-nil, length_push}
@@ -17,11 +17,13 @@ use Rattle.trace_text.specs.declared.said.Said.TheVariants.{Header, Numbered, To
 use Rattle.trace_text.specs.declared.timing.GivenTimers.{GivenTimers}
 use Rattle.tone_rules.specs.Tables.{no_tones}
 use Rattle.trace_text.specs.TraceGrammar.{sizes_in, number_said, numbers_in, plan_of, tone_said, timer_said, event_said, events_in, open_segment_end, ends_after, segment_ends, changes_after, changes_in, so_far}
-use Rattle.trace_text.specs.TraceLines.{SoFar, reads, says, trace_limits, with_tone}
-use Rattle.trace_text.proofs.TraceParts.{says_both}
+use Rattle.trace_text.specs.TraceLines.{SoFar, reads, says, trace_limits, with_tone, Fails}
+use Rattle.trace_text.specs.TraceWords.{lines}
+use Rattle.trace_text.specs.declared.fault.LineError.{LineError}
+use Rattle.trace_text.proofs.TraceParts.{says_both, reads_sync}
 use Rattle.trace_text.specs.TraceTimers.{no_timers, with_timer}
 use Rattle.trace_text.specs.TraceHeading.{happening_of, with_said, Suits, IsLineRead}
-use Rattle.trace_text.specs.TraceDraft.{Holds, IsEnded}
+use Rattle.trace_text.specs.TraceDraft.{Holds, HasRead, IsEnded, FailsFirst}
 
 -- the header is the first
 pub sizes_first : (told more : List Said) (sizes : Sizes) → sizes_in told ≡ Some sizes → sizes_in (told ++ more) ≡ Some sizes
@@ -280,3 +282,20 @@ pub holds_sync : (d n : Draft) (told : List Said) (line : List ℕ) → Holds d 
 holds_sync d n told line h read ended =
     sync_said d told h n line Sync (says_both trace_limits d.heading line Sync read refl) (ended.heading ∙ known_behind d.heading d.heading Sync tt refl told h.heading) refl
     ended.events ended.ends ended.begun ended.changes
+
+-- the first line is `sync`, or `F`, read at once
+pub sync_first : (d n : Draft) (bytes others : List ℕ) (sizes : Sizes) → d.heading.sizes ≡ Some sizes → lines bytes ≡ codes "sync" ∷ lines others → length others < length bytes
+    → IsEnded d n → HasRead d n bytes others
+sync_first d n bytes others sizes known cut shorter ended = record {
+  line = codes "sync";
+  cut = cut;
+  shorter = shorter;
+  holds = λ told h. holds_sync d n told (codes "sync") h (reads_sync d.heading sizes (codes "sync") known refl) ended;
+}
+
+pub event_first : (d n : Draft) (bytes others : List ℕ) (line : List ℕ) → lines bytes ≡ line ∷ lines others → length others < length bytes
+    → ((told : List Said) → Holds d told → HoldsMore told line n) → HasRead d n bytes others
+event_first d n bytes others line cut shorter holds = record { line = line; cut = cut; shorter = shorter; holds = holds }
+
+pub fails_first : (d : Draft) (bytes others : List ℕ) (line : List ℕ) (e : LineError) → lines bytes ≡ line ∷ lines others → Fails e (says trace_limits d.heading line) → FailsFirst d bytes e
+fails_first d bytes others line e cut fails = record { line = line; others = others; cut = cut; fails = fails }

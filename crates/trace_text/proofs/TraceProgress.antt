@@ -13,7 +13,7 @@ use Rattle.exchange_events.specs.declared.trace.Trace.{Trace}
 use Rattle.trace_text.specs.TraceWords.{lines}
 use Rattle.trace_text.specs.TraceLines.{SoFar, says, trace_limits, Fails}
 use Rattle.trace_text.specs.TraceGrammar.{max_bytes, so_far, EachSays, IsWhatLinesSay, IsTrace, IsRefused, At_line, At_end}
-use Rattle.trace_text.specs.TraceDraft.{FailsAtEnd, Holds, at_line, IsFault}
+use Rattle.trace_text.specs.TraceDraft.{FailsAtEnd, FailsFirst, HasRead, Holds, at_line, IsFault}
 use Rattle.trace_text.proofs.TraceHolds.{HoldsMore}
 
 -- the lines before the rest were read, each met its checks, and the draft holds what they said
@@ -70,6 +70,14 @@ pub fault_at : (bytes rest line others : List ℕ) (number : ℕ) (d : Draft) (e
     → length bytes ≤ max_bytes → lines rest ≡ line ∷ lines others → Fails e (says trace_limits d.heading line) → fault ≡ at_line e (number + 1) → IsFault bytes fault
 fault_at bytes rest line others number d Memory fault p few cut fails is = rw is tt
 fault_at bytes rest line others number d (Refused why) fault p few cut fails is = rw is (fails_at bytes rest line others number d why p few cut fails)
+
+-- the first line of the rest was read, or is the first that fails
+pub goes_on : (bytes rest others : List ℕ) (number : ℕ) (d n : Draft) → Progress bytes rest number d → HasRead d n rest others → Progress bytes others (number + 1) n
+goes_on bytes rest others number d n p r = Progress_goes_on bytes rest r.line others number d n p r.cut r.shorter (r.holds p.told p.held)
+
+pub fails_on : (bytes rest : List ℕ) (number : ℕ) (d : Draft) (e : LineError) (fault : TraceFault) → Progress bytes rest number d
+    → length bytes ≤ max_bytes → FailsFirst d rest e → fault ≡ at_line e (number + 1) → IsFault bytes fault
+fails_on bytes rest number d e fault p few f is = fault_at bytes rest f.line f.others number d e fault p few f.cut f.fails is
 
 -- every line was read
 whole : (bytes rest : List ℕ) (number : ℕ) (d : Draft) (p : Progress bytes rest number d) → length rest ≡ 0 → lines bytes ≡ p.front

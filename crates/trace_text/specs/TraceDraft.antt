@@ -1,5 +1,5 @@
 -- The state of the parser after some lines. Source: this project.
-use Rattle.std.specs.Prelude.{◌≡◌, ℕ, ◌+◌, List, ◌++◌, length, Option, None}
+use Rattle.std.specs.Prelude.{◌≡◌, ℕ, ◌+◌, ◌<◌, List, [], ◌∷◌, ◌++◌, length, Option, Ok, None}
 use Rattle.number_plan.specs.declared.plan.PlanFault.{PlanFault}
 use Rattle.number_plan.specs.declared.plan.PlanFault.TheVariants as plan_fault
 use Rattle.trace_text.specs.declared.draft.Draft.{Draft}
@@ -10,6 +10,8 @@ use Rattle.trace_text.specs.declared.fault.TraceFault.TheVariants as trace_fault
 use Rattle.trace_text.specs.declared.fault.Reason.TheVariants as reason
 use Rattle.trace_text.specs.declared.said.Sizes.{Sizes}
 use Rattle.trace_text.specs.declared.said.Said.{Said}
+use Rattle.trace_text.specs.TraceWords.{lines}
+use Rattle.trace_text.specs.TraceLines.{says, trace_limits, Fails}
 use Rattle.trace_text.specs.TraceGrammar.{so_far, events_in, open_segment_end, segment_ends, ends_after, changes_in, IsRefused}
 
 -- the error of a trace, from the error of its line
@@ -29,6 +31,20 @@ pub record Holds (d : Draft) (told : List Said) : Type 0 where
   pub events : d.events.items ≡ events_in told
   pub ends : (more : List Said) → segment_ends (told ++ more) ≡ d.ends.items ++ ends_after d.begun (length d.events.items) more
   pub changes : d.changes.items ≡ changes_in told
+
+-- the first of these octets' lines meets its checks, the draft then holds what it says, and these octets follow it
+pub record HasRead (d n : Draft) (bytes others : List ℕ) : Type 0 where
+  pub line : List ℕ
+  pub cut : lines bytes ≡ line ∷ lines others
+  pub shorter : length others < length bytes
+  pub holds : (told : List Said) → Holds d told → (said : Said) × (says trace_limits (so_far told) line ≡ Ok said) × Holds n (told ++ said ∷ [])
+
+-- the first of these octets' lines fails a check, or an allocation fails
+pub record FailsFirst (d : Draft) (bytes : List ℕ) (e : LineError) : Type 0 where
+  pub line : List ℕ
+  pub others : List ℕ
+  pub cut : lines bytes ≡ line ∷ lines others
+  pub fails : Fails e (says trace_limits d.heading line)
 
 -- the draft after the end of its open segment
 pub record IsEnded (d n : Draft) : Type 0 where

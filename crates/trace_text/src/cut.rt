@@ -1,5 +1,5 @@
 // Lines, fields and decimal numbers, as slices of borrowed octets.
-ghost use Rattle.std.specs.Prelude.{◌≡◌, ◌≢◌, ◌<◌, ◌≤◌, ◌∷◌, [], length, slice_index, MatchOption, IfSome, Some, option_map};
+ghost use Rattle.std.specs.Prelude.{◌≡◌, ◌≢◌, ◌<◌, ◌≤◌, ◌∷◌, [], length, slice_index, codes, MatchOption, IfSome, Some, option_map};
 ghost use Rattle.std.specs.List.{list_all};
 ghost use Rattle.memchr.specs.Find.{IsFirstByte, is_byte};
 ghost use Rattle.trace_text.specs.TraceWords.{lines, words, two, one_or_two, three, digits_and_target, cut_at, numeral, is_printable};
@@ -12,6 +12,9 @@ const LINE_FEED: u8 = b'\n';
 
 /// The octet between fields.
 const SPACE: u8 = b' ';
+
+// The octets of `sync`, the first one in the lowest bits.
+const SYNC: u32 = 0x636E_7973;
 
 // Returns the place of the first line feed, if it is one of the first 32 octets.
 #[inline(always)]
@@ -31,17 +34,41 @@ fn near_line_end(bytes: &[u8]) -> Option<usize>
     Some(end as usize)
 }
 
+/// Returns the octets after the first line, if that line is `sync` in the common form.
+#[inline(always)]
+pub(crate) fn behind_sync(bytes: &[u8]) -> Option<&[u8]>
+    ensures first { IfSome result (λ others. lines bytes.now ≡ codes "sync" ∷ lines others.now) }
+    ensures shorter { IfSome result (λ others. length others.now < length bytes.now) }
+{
+    let [s, y, n, c, LINE_FEED, others @ ..] = bytes else {
+        return None;
+    };
+    // One comparison tests all four octets.
+    if u32::from_le_bytes([*s, *y, *n, *c]) != SYNC {
+        return None;
+    }
+    Some(others)
+}
+
+/// Returns the octets after the first line, if that line is a frame without fields in the common form.
+#[inline(always)]
+pub(crate) fn behind_idle_frame(bytes: &[u8]) -> Option<&[u8]>
+    ensures first { IfSome result (λ others. lines bytes.now ≡ codes "F" ∷ lines others.now) }
+    ensures shorter { IfSome result (λ others. length others.now < length bytes.now) }
+{
+    match bytes {
+        [b'F', LINE_FEED, others @ ..] => Some(others),
+        _ => None,
+    }
+}
+
 /// Returns the first line without its line feed, and the octets after it.
 pub(crate) fn first_line(bytes: &[u8]) -> (&[u8], &[u8])
     requires { 0 < length bytes.now }
     ensures first { lines bytes.now ≡ result.0.now ∷ lines result.1.now }
     ensures shorter { length result.1.now < length bytes.now }
 {
-    // Most lines of a trace of messages are `sync`.
-    if let [b's', b'y', b'n', b'c', LINE_FEED, others @ ..] = bytes {
-        return (&bytes[..4], others);
-    }
-    // Most other lines of such a trace are short.
+    // Most lines are short.
     if let Some(end) = near_line_end(bytes) {
         return (&bytes[..end], &bytes[end + 1..]);
     }

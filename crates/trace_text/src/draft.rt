@@ -1,8 +1,9 @@
 // The trace of the lines read so far.
+use crate::cut::{behind_idle_frame, behind_sync, first_line};
 use crate::fault::{LineError, Reason, TraceFault};
 use crate::heading::{Happening, Heading};
 use crate::limits::Limits;
-use exchange_events::{Changes, Event, Events, Segments, Trace};
+use exchange_events::{Changes, Event, Events, Input, Segments, Trace};
 use std::alloc::{AllocError, Global};
 
 /// The result of the lines so far: the heading, the events, the ends of the segments, and the changes of meters.
@@ -17,12 +18,12 @@ pub struct Draft {
 }
 
 impl Draft {
-    ghost use Rattle.std.specs.Prelude.{◌≡◌, ◌<◌, ◌++◌, ◌∷◌, [], ℕ, List, Ok, OnOk, IfOk, IfErr};
+    ghost use Rattle.std.specs.Prelude.{◌≡◌, ◌<◌, ◌++◌, ◌∷◌, [], ℕ, List, length, Ok, OnOk, IfOk, IfErr};
     ghost use Rattle.trace_text.specs.declared.said.Said.{Said};
     ghost use Rattle.trace_text.specs.declared.said.Said.TheVariants.{Happens};
     ghost use Rattle.trace_text.specs.TraceLines.{trace_limits, reads, says, Fails};
     ghost use Rattle.trace_text.specs.TraceGrammar.{so_far, IsWhatLinesSay};
-    ghost use Rattle.trace_text.specs.TraceDraft.{Holds, IsEnded, FailsAtEnd};
+    ghost use Rattle.trace_text.specs.TraceDraft.{Holds, HasRead, IsEnded, FailsAtEnd, FailsFirst};
 
     /// Returns the draft of an empty trace.
     pub fn new(alloc: Global) -> Draft
@@ -103,30 +104,58 @@ impl Draft {
         Ok(())
     }
 
-    /// Reads one more line.
-    ///
-    /// # Errors
-    ///
-    /// - [`LineError::Refused`] if the line fails a check, with the first one.
-    /// - [`LineError::Memory`] if an allocation fails.
+    // Reads one more line.
     #[inline(always)]
-    pub fn read_line(&mut self, alloc: Global, line: &[u8]) -> Result<(), LineError>
+    fn read_line(&mut self, alloc: Global, line: &[u8]) -> Result<(), LineError>
         ensures read { OnOk result ((told : List Said) →
             Holds self.old told → (said : Said)
             × (says trace_limits (so_far told) line.now ≡ Ok said)
             × Holds self.new (told ++ said ∷ [])) }
         ensures refused { IfErr result (λ e. Fails e (says trace_limits self.old.heading line.now)) }
     {
-        // Most lines of a trace of messages are messages and `sync`.
-        if self.heading.is_sync(line) {
-            self.end_segment()?;
-            return Ok(());
-        }
         let Some(event) = self.heading.common_event(alloc, line) else {
             return self.read_other_line(alloc, line);
         };
         self.push_event(event)?;
         Ok(())
+    }
+
+    // Reads the first line in any form, and returns the octets after it.
+    #[inline(always)]
+    fn read_any_first<'a>(&mut self, alloc: Global, bytes: &'a [u8]) -> Result<&'a [u8], LineError>
+        requires { 0 < length bytes.now }
+        ensures read { IfOk result (λ others. HasRead self.old self.new bytes.now others.now) }
+        ensures refused { IfErr result (λ e. FailsFirst self.old bytes.now e) }
+    {
+        let (line, others) = first_line(bytes);
+        self.read_line(alloc, line)?;
+        Ok(others)
+    }
+
+    /// Reads the first line, and returns the octets after it.
+    ///
+    /// # Errors
+    ///
+    /// - [`LineError::Refused`] if the line fails a check, with the first one.
+    /// - [`LineError::Memory`] if an allocation fails.
+    #[inline(always)]
+    pub fn read_first<'a>(&mut self, alloc: Global, bytes: &'a [u8]) -> Result<&'a [u8], LineError>
+        requires { 0 < length bytes.now }
+        ensures read { IfOk result (λ others. HasRead self.old self.new bytes.now others.now) }
+        ensures refused { IfErr result (λ e. FailsFirst self.old bytes.now e) }
+    {
+        if let Some(sizes) = self.heading.sizes() {
+            // Most lines of a trace of messages are `sync`.
+            if let Some(others) = behind_sync(bytes) {
+                self.end_segment()?;
+                return Ok(others);
+            }
+            if let Some(others) = behind_idle_frame(bytes) {
+                self.push_event(Event::Frame(Input::idle(sizes.external)))?;
+                return Ok(others);
+            }
+        }
+        self.read_any_first(alloc, bytes)
     }
 
     /// Returns the trace of `lines` lines.

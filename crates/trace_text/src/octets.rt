@@ -1,7 +1,7 @@
 // Octets in hexadecimal digits.
 //
 // The functions read 32 digits at a time, by vectors. Fewer digits are padded to 32.
-ghost use Rattle.std.specs.Prelude.{◌≡◌, ◌++◌, ◌+◌, ◌-◌, ◌%◌, ◌<◌, ◌≤◌, ◌^◌, not, nat_le, ℕ, List, length, take, drop, Some, is_some, option_map, map, replicate, ok_or, IfOk, IfErr, OnOk, Ok};
+ghost use Rattle.std.specs.Prelude.{◌≡◌, ◌++◌, ◌+◌, ◌-◌, ◌%◌, ◌<◌, ◌≤◌, ◌^◌, not, nat_le, ℕ, List, length, take, drop, Some, is_some, option_map, map, replicate, ok_or, IfOk, IfErr, IfSome, OnOk, Ok};
 ghost use Rattle.std.specs.List.{list_all};
 ghost use Rattle.trace_text.specs.TraceFields.{digit_value, below_sixteen, is_digit, octets_written, thirty, at_most, max_message_len, of_tone};
 ghost use Rattle.trace_text.specs.TraceLines.{Fails, Gives};
@@ -112,9 +112,34 @@ pub(crate) fn thirty_octets(digits: &[u8]) -> Result<[u8; 30], Reason>
     Ok(thirty_of(u8x16::from_array(first), u8x16::from_array(last)))
 }
 
-// Returns the first 14 octets of `first` and the octets of `last`.
+// Returns the values of the 16 digits from one on, as [`digit_values`] does.
 #[inline(always)]
-fn thirty_of(first: u8x16, last: u8x16) -> [u8; 30]
+fn values_from(digits: &[u8], start: usize) -> u8x16
+    requires { start + 16 ≤ length digits.now }
+    ensures { map digit_value (take 16 (drop start digits.now)) ≡ map below_sixteen result }
+{
+    digit_values(u8x16::from_slice(&digits[start..]))
+}
+
+/// Returns the octets of the first 32 and of the last 32 of 60 digits. `None` if an octet is not a digit.
+#[inline(always)]
+pub(crate) fn halves_of(digits: &[u8; 60]) -> Option<(u8x16, u8x16)>
+    ensures { IfSome result (λ halves. thirty (octets_written digits.now) ≡ Ok (take 14 halves.0 ++ halves.1)) }
+{
+    let one = values_from(digits, 0);
+    let two = values_from(digits, 16);
+    let three = values_from(digits, 28);
+    let four = values_from(digits, 44);
+    // One test covers all digits: a lane is below 16 if both of its values are.
+    if !are_values(one | two, three | four) {
+        return None;
+    }
+    Some((joined(one, two), joined(three, four)))
+}
+
+/// Returns the first 14 octets of `first` and the octets of `last`.
+#[inline(always)]
+pub(crate) fn thirty_of(first: u8x16, last: u8x16) -> [u8; 30]
     ensures { result ≡ take 14 first ++ last }
 {
     let mut octets = [0; 30];

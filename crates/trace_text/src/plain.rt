@@ -5,7 +5,7 @@ ghost use Rattle.trace_text.specs.TraceWords.{words};
 ghost use Rattle.trace_text.specs.TraceLines.{frame, nail, free, message};
 ghost use Rattle.trace_text.specs.TracePlain.{ends_word, NumberAt, PartAt, SlotAt, TakesPart, GivesPlainly, IsPlain};
 
-use crate::octets::{message_octets, thirty_octets};
+use crate::octets::{halves_of, message_octets, thirty_of};
 use circuit_model::{Slot, slot_of_channel};
 use exchange_events::{Event, Input};
 use std::alloc::{AllocError, Global};
@@ -70,8 +70,8 @@ fn plain_part<'a>(given: &mut [Option<[u8; 30]>], rest: &'a [u8]) -> Option<&'a 
     if place >= given.len() || given[place].is_some() {
         return None;
     }
-    let octets = thirty_octets(sixty).ok()?;
-    given[place] = Some(octets);
+    let (first, last) = halves_of(sixty)?;
+    given[place] = Some(thirty_of(first, last));
     Some(others)
 }
 

@@ -3,7 +3,6 @@ ghost use Rattle.std.specs.Prelude.{◌≡◌, ℕ, ◌⊎◌, IfOk, IfErr, Ok, 
 ghost use Rattle.trace_text.specs.TraceGrammar.{IsTrace, IsRefused};
 ghost use Rattle.trace_text.specs.TraceDraft.{IsFault};
 
-use crate::cut::first_line;
 use crate::draft::Draft;
 use crate::fault::{Reason, TraceFault};
 use exchange_events::Trace;
@@ -27,12 +26,11 @@ fn read_lines(alloc: Global, bytes: &[u8]) -> Result<Trace, TraceFault>
     let mut rest = bytes;
     let mut number = 0;
     while !rest.is_empty() {
-        let (line, others) = first_line(rest);
         number += 1;
-        if let Err(fault) = draft.read_line(alloc, line) {
-            return Err(fault.at_line(number));
+        match draft.read_first(alloc, rest) {
+            Ok(others) => rest = others,
+            Err(fault) => return Err(fault.at_line(number)),
         }
-        rest = others;
     }
     draft.finish(number)
 }
