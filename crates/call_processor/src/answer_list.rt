@@ -46,6 +46,7 @@ impl AnswerSink for AnswerList {
         response: Response,
         outbox: &Outbox,
         octets: &[[u8; 30]],
+        _: usize,
     ) -> Result<(), AllocError> {
         let answer = Answer::keep_response(alloc, event, response, outbox, octets)?;
         self.items.push_back(Placed { place, answer })?;

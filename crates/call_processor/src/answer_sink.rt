@@ -1,5 +1,6 @@
 //! The stores of a worker for the events that it processed.
 ghost use Rattle.std.specs.Prelude.{◌≡◌, List, [], ◌++◌, ◌==◌, length, OnOk, OnErr};
+ghost use Rattle.frame_engine.specs.Frames.{AreIdleFrom};
 ghost use Rattle.call_processor.specs.declared.worked.Placed.{Placed};
 ghost use Rattle.call_processor.specs.Keeping.{HandsOn, StillHolds, IsKept, first_place, placed};
 
@@ -22,7 +23,7 @@ pub trait AnswerSink: Sized + Send + Drop {
         ensures { holds self.new [] };
 
     /// Appends one event: its position in the history, its number, the response and the outbox of its step, and for a
-    /// frame the octets that each external line is sent.
+    /// frame the octets that each external line is sent. The rows from `sounding` on are idle.
     ///
     /// # Errors
     ///
@@ -35,7 +36,9 @@ pub trait AnswerSink: Sized + Send + Drop {
         response: Response,
         outbox: &Outbox,
         octets: &[[u8; 30]],
+        sounding: usize,
     ) -> Result<(), AllocError>
+        requires idle { AreIdleFrom sounding octets.now }
         ensures kept { OnOk result (IsKept (λ k. holds k) (placed place event response outbox.now octets.now) self.old self.new) }
         ensures refused { OnErr result ((answers : List Placed) → holds self.old answers → holds self.new answers) };
 

@@ -85,6 +85,7 @@ pub(crate) fn do_frame<
         response,
         &machine.context.out,
         octets,
+        machine.engine.sounding(),
     )
 }
 

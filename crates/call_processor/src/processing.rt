@@ -53,7 +53,7 @@ pub(crate) fn do_event<B: Switchboard, G: Gate, K: AnswerSink, R: Wait>(
     cx.gate.before_turn(processor, event);
     let (place, response) = cx.board.handle_into(cx.rt, seat, event, context, keep);
     cx.gate.after_turn(processor, event);
-    sink.push(cx.alloc, place, event, response, &context.out, &[])
+    sink.push(cx.alloc, place, event, response, &context.out, &[], 0)
 }
 
 // Processes the events of one call processor in one segment in order, until an allocation fails. It tests every event

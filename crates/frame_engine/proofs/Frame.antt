@@ -444,13 +444,13 @@ module _ (e : Stages) (m : Control) (out : List ℕ) (is : IsAt e m out) (inputs
       (λ line slot here near. all line slot here near ∙ sym (from_inlet-silence (path_out layout line slot)))
 
   -- ---- the engine afterwards
-  abbrev after_frame : List ℕ → Highways → ℕ → Stages
-  after_frame taken crossed live = record { external = e.external; bridges = e.bridges; slots = e.slots; next = n + 1; kept = m; taken = taken; crossed = crossed; read = out; live = live }
+  abbrev after_frame : List ℕ → Highways → (live sounding : ℕ) → Stages
+  after_frame taken crossed live sounding = record { external = e.external; bridges = e.bridges; slots = e.slots; next = n + 1; kept = m; taken = taken; crossed = crossed; read = out; live = live; sounding = sounding }
 
-  pub carries_on : (taken : List ℕ) (crossed : Highways) (live : ℕ) → Takes e m input out taken → HoldsCrossing lines e.slots layout (octet_in_half e.taken) (octet_on crossed) → HasHighwaySizes e crossed → Fades (after_frame taken crossed live)
-      → EngineCarries (after_frame taken crossed live) (inputs ++ input ∷ []) (held ++ circuits ∷ []) (ports ++ seats ∷ [])
-  carries_on taken crossed live did holds size fades =
-      let last : CarriesLast (after_frame taken crossed live) (inputs ++ input ∷ []) (held ++ circuits ∷ []) (ports ++ seats ∷ []) n = record {
+  pub carries_on : (taken : List ℕ) (crossed : Highways) (live sounding : ℕ) → Takes e m input out taken → HoldsCrossing lines e.slots layout (octet_in_half e.taken) (octet_on crossed) → HasHighwaySizes e crossed → Fades (after_frame taken crossed live sounding)
+      → EngineCarries (after_frame taken crossed live sounding) (inputs ++ input ∷ []) (held ++ circuits ∷ []) (ports ++ seats ∷ [])
+  carries_on taken crossed live sounding did holds size fades =
+      let last : CarriesLast (after_frame taken crossed live sounding) (inputs ++ input ∷ []) (held ++ circuits ∷ []) (ports ++ seats ∷ []) n = record {
         layout = layout;
         shows = subst (λ (ps : Ports). ShowsBy layout m (circuits_of (held ++ circuits ∷ []) n) ps n) (sym (ports-last ports seats n carries.counted.ports_counted))
             (subst (λ (ds : List Circuit). ShowsBy layout m ds seats n) (sym (circuits-last held circuits n carries.counted.held_counted)) shows);
@@ -461,5 +461,5 @@ module _ (e : Stages) (m : Control) (out : List ℕ) (is : IsAt e m out) (inputs
         sizes = record { kept_external = is.external; kept_bridges = is.bridges; kept_slots = is.slots; crossed_lines = size.lines; crossed_slots = size.slots };
         fades = fades;
         counted = counted-more n inputs held ports input circuits seats carries.counted;
-        last = subst (λ f. CarriesAt (after_frame taken crossed live) (inputs ++ input ∷ []) (held ++ circuits ∷ []) (ports ++ seats ∷ []) f) (sym (add-one n)) last;
+        last = subst (λ f. CarriesAt (after_frame taken crossed live sounding) (inputs ++ input ∷ []) (held ++ circuits ∷ []) (ports ++ seats ∷ []) f) (sym (add-one n)) last;
       }

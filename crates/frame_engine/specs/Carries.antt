@@ -14,8 +14,9 @@ use Rattle.control_memory.specs.Shown.{ShowsBy}
 use Rattle.frame_engine.specs.Frames.{AreCounted, octet_brought}
 
 -- an engine: its sizes, the number of its next frame, the control memory of the frame before that, the octets that the
--- frame before brought to each slot, the octets that crossed in it, the octets that were read out in it, and the number
--- of frames after which all these octets are idle, if none arrives
+-- frame before brought to each slot, the octets that crossed in it, the octets that were read out in it, the number of
+-- frames after which all these octets are idle, if none arrives, and the number of external lines, from line 0 on, that
+-- may have sent an octet other than idle in it
 pub record Stages : Type 0 where
   pub external : ℕ
   pub bridges : ℕ
@@ -26,6 +27,7 @@ pub record Stages : Type 0 where
   pub crossed : Highways
   pub read : List ℕ
   pub live : ℕ
+  pub sounding : ℕ
 
 -- the octets that the frame before frame f brought; before the first frame everything is idle
 abbrev pub brought_before : ℕ → List Input → List (List Circuit) → List Ports → ℕ → Slot → ℕ

@@ -1,5 +1,5 @@
 -- The frames that an engine has carried, and its output. Source: this project.
-use Rattle.std.specs.Prelude.{◌≡◌, ℕ, ◌<◌, List, [], ◌∷◌, ◌++◌, length, Option, Some, None, slice_index, slice_index_or, if◌then◌else◌, nat_lt}
+use Rattle.std.specs.Prelude.{◌≡◌, ℕ, ◌<◌, ◌≤◌, List, [], ◌∷◌, ◌++◌, length, Option, Some, None, slice_index, slice_index_or, replicate, if◌then◌else◌, nat_lt}
 use Rattle.circuit_model.specs.declared.channel.Slot.{Slot}
 use Rattle.circuit_model.specs.declared.circuit.Kind.{Kind}
 use Rattle.circuit_model.specs.declared.circuit.Circuit.{Circuit}
@@ -82,6 +82,10 @@ PlaysOut external octet out = (at : Slot) → at.line < external → at.place < 
 -- the boundary with this input
 abbrev pub PlaysFrame : (List Input → List (List Circuit) → ℕ → Slot → ℕ) → Control → Boundary → Input → List (List ℕ) → Type 0
 PlaysFrame plays m b input out = PlaysOut m.external (plays (inputs_with b input) (held_with b) m.frame) out
+
+-- all rows of octets from one on are idle
+abbrev pub AreIdleFrom : ℕ → List (List ℕ) → Type 0
+AreIdleFrom first rows = (row : ℕ) → first ≤ row → row < length rows → slice_index_or rows row [] ≡ replicate 30 idle_octet
 
 -- each tone that a slot receives is given
 abbrev pub TonesGiven : Tones → Control → Type 0

@@ -10,7 +10,7 @@ ghost use Rattle.circuit_model.specs.Ports.{Ports};
 ghost use Rattle.circuit_model.specs.Dimensions.{Dimensions};
 ghost use Rattle.control_memory.specs.Image.{IsOfSize, SameSizes};
 ghost use Rattle.tone_rules.specs.Tables.{table_of};
-ghost use Rattle.frame_engine.specs.Frames.{AreCounted, Boundary, IsNext, PlaysFrame, TonesGiven, held_with, inputs_with, ports_with};
+ghost use Rattle.frame_engine.specs.Frames.{AreCounted, AreIdleFrom, Boundary, IsNext, PlaysFrame, TonesGiven, held_with, inputs_with, ports_with};
 
 use control_memory::Image;
 use std::alloc::{AllocError, Global};
@@ -31,6 +31,9 @@ pub trait Carrier: Sized + Send + Drop {
     /// The octet that it outputs on an external slot in a frame, given the tones and each frame's input and circuits.
     ghost plays: { (Kind → List ℕ) → List Input → List (List Circuit) → ℕ → Slot → ℕ };
 
+    /// The number of external lines, from line 0 on, that may have been sent an octet other than idle in its last frame.
+    ghost sounding: { Self → ℕ } = { λ _. 18446744073709551615 };
+
     /// Returns an engine for the given numbers of external lines, bridge lines and internal slots, which has carried no
     /// frame.
     fn new(alloc: Global, external: u8, bridges: u8, slots: u8) -> Result<Self, AllocError>
@@ -40,6 +43,14 @@ pub trait Carrier: Sized + Send + Drop {
         ensures sizes { IfOk result (λ e. sizes e ≡ record { external = external; bridges = bridges; slots = slots }) }
         ensures next { IfOk result (λ e. next e ≡ 0) }
         ensures carries { IfOk result (λ e. carries e [] [] []) };
+
+    /// Returns how many external lines, from line 0 on, may have been sent an octet other than idle in the last frame. It
+    /// returns `usize::MAX` if that is unknown.
+    fn sounding(&self) -> usize
+        ensures { result < 18446744073709551615 → result ≡ sounding self.now }
+    {
+        usize::MAX
+    }
 
     /// Carries one frame: it stores `input`, 30 octets for each external line or none for an idle one, and writes the
     /// octet that each external slot sends into `out`. The control memory is this frame's. The engine keeps it, and
@@ -61,6 +72,7 @@ pub trait Carrier: Sized + Send + Drop {
         requires out { length out.old ≡ (sizes self.old).external }
         requires tones { TonesGiven tones.now image.old }
         ensures plays { (b : Boundary) → IsNext (carries self.old) image.old b → PlaysFrame (plays (table_of tones.now)) image.old b input.now out.new }
+        ensures idle { AreIdleFrom (sounding self.new) out.new }
         ensures carries { (b : Boundary) → IsNext (carries self.old) image.old b → carries self.new (inputs_with b input.now) (held_with b) (ports_with b) }
         ensures next { next self.new ≡ next self.old + 1 }
         ensures sizes { sizes self.new ≡ sizes self.old }

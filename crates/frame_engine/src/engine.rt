@@ -48,6 +48,8 @@ pub struct Engine {
     next: u32,
     // The number of frames after which all octets are idle, if none arrives.
     live: u8,
+    // The number of external lines, from line 0 on, that may have sent something in the last frame.
+    sounding: u8,
     kept: Image,
     speech: FrameBuffer,
     highway: Highway,
@@ -72,6 +74,7 @@ impl Model for Engine {
       crossed = e.crossed;
       read = e.read.readable;
       live = e.live;
+      sounding = e.sounding;
     } };
 
     ghost invariant = { λ e. IsBuilt e.external e.bridges e.slots e.levels e.kept e.speech e.highway e.crossed e.read };
@@ -119,6 +122,8 @@ impl Carrier for Engine {
 
     ghost plays = { hears };
 
+    ghost sounding = { λ e. e.sounding };
+
     ghost counted = { λ e inputs held ports carried. carried.counted };
 
     fn new(alloc: Global, external: u8, bridges: u8, slots: u8) -> Result<Self, AllocError> {
@@ -133,6 +138,7 @@ impl Carrier for Engine {
             levels: LEVELS,
             next: 0,
             live: 0,
+            sounding: 0,
             kept: Image::new(alloc, external, bridges, slots)?,
             speech,
             highway,
@@ -140,6 +146,10 @@ impl Carrier for Engine {
             read,
             codes,
         })
+    }
+
+    fn sounding(&self) -> usize {
+        usize::from(self.sounding)
     }
 
     fn frame<R: Threads + Sync>(
@@ -151,7 +161,7 @@ impl Carrier for Engine {
         out: &mut [[u8; 30]],
     ) {
         let Some(live) = live_after(self.live, image, input) else {
-            play_at_rest(&self.read, image, tones, out);
+            self.sounding = play_at_rest(&self.read, image, tones, out);
             mem::swap(&mut self.kept, image);
             self.next += 1;
             return;
@@ -165,7 +175,7 @@ impl Carrier for Engine {
         cross_shared(rt, &self.highway, image, &mut self.crossed, levels);
         take_in(input, self.external, &mut self.speech);
         self.speech.swap();
-        play(&self.read, image, tones, out);
+        self.sounding = play(&self.read, image, tones, out);
         mem::swap(&mut self.kept, image);
         self.next += 1;
     }

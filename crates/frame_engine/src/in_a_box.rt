@@ -19,11 +19,17 @@ impl Carrier for Box<Engine> {
 
     ghost plays = { hears };
 
+    ghost sounding = { λ b. b.value.sounding };
+
     ghost counted = { λ b inputs held ports carried. carried.counted };
 
     fn new(alloc: Global, external: u8, bridges: u8, slots: u8) -> Result<Self, AllocError> {
         let engine = Engine::new(alloc, external, bridges, slots)?;
         Ok(Box::new(alloc, engine)?)
+    }
+
+    fn sounding(&self) -> usize {
+        self.as_ref().sounding()
     }
 
     fn frame<R: Threads + Sync>(

@@ -8,7 +8,7 @@ ghost use Rattle.frame_buffer.specs.Speech.{octet_in_half};
 ghost use Rattle.control_memory.specs.HeardRows.{HasToneBits};
 ghost use Rattle.control_memory.specs.Image.{lines_of, heard_at};
 ghost use Rattle.tone_rules.specs.Tables.{table_of, IsGiven};
-ghost use Rattle.frame_engine.specs.Frames.{PlaysOut, TonesGiven};
+ghost use Rattle.frame_engine.specs.Frames.{AreIdleFrom, PlaysOut, TonesGiven};
 ghost use Rattle.frame_engine.specs.Playing.{AreGiven, AreGivenOn, EachPlace, HasLine, by_path, played_as, played_at, played_on, with_tone};
 ghost use Rattle.frame_engine.specs.Resting.{PlaysAtRest};
 
@@ -20,14 +20,15 @@ use tone_rules::{Tones, tone_octet};
 const IDLE_LINE: [u8; 30] = [IDLE; 30];
 
 // Writes the octet that each external slot sends. The lines after the last one that may receive something are idle, and
-// are written at once. Two functions call it, and LLVM would leave it a call.
+// are written at once. Returns how many lines come before them. Two functions call it, and LLVM would leave it a call.
 #[inline(always)]
-pub(crate) fn play(read: &FrameBuffer, image: &Image, tones: &Tones, out: &mut [[u8; 30]])
+pub(crate) fn play(read: &FrameBuffer, image: &Image, tones: &Tones, out: &mut [[u8; 30]]) -> u8
     requires read { read.now.lines ≡ lines_of image.now }
     requires lines { lines_of image.now ≤ 255 }
     requires out { length out.old ≡ image.now.external }
     requires tones { TonesGiven tones.now image.now }
-    ensures { PlaysOut image.now.external (played_at (table_of tones.now) image.now (octet_in_half read.now.readable)) out.new }
+    ensures plays { PlaysOut image.now.external (played_at (table_of tones.now) image.now (octet_in_half read.now.readable)) out.new }
+    ensures idle { AreIdleFrom result out.new }
 {
     let lines = playing_lines(image);
     let table = image.heard_table();
@@ -36,20 +37,29 @@ pub(crate) fn play(read: &FrameBuffer, image: &Image, tones: &Tones, out: &mut [
         play_line(read.row(line), table, line, tones, image.frame(), octets);
     }
     fill_idle_from(out, usize::from(lines));
+    lines
 }
 
 // Writes the octet that each external slot sends, if only idle octets were read out. Without tones all of them are idle.
-pub(crate) fn play_at_rest(read: &FrameBuffer, image: &Image, tones: &Tones, out: &mut [[u8; 30]])
+// Returns how many lines, from line 0 on, may send another octet.
+pub(crate) fn play_at_rest(
+    read: &FrameBuffer,
+    image: &Image,
+    tones: &Tones,
+    out: &mut [[u8; 30]],
+) -> u8
     requires read { read.now.lines ≡ lines_of image.now }
     requires lines { lines_of image.now ≤ 255 }
     requires out { length out.old ≡ image.now.external }
     requires tones { TonesGiven tones.now image.now }
-    ensures { PlaysAtRest tones.now image.now read.now.readable out.new }
+    ensures plays { PlaysAtRest tones.now image.now read.now.readable out.new }
+    ensures idle { AreIdleFrom result out.new }
 {
     if gives_none(tones) {
         fill_idle_from(out, 0);
+        0
     } else {
-        play(read, image, tones, out);
+        play(read, image, tones, out)
     }
 }
 
@@ -66,7 +76,7 @@ fn fill_idle_from(out: &mut [[u8; 30]], first: usize)
     requires { first ≤ length out.old }
     ensures size { length out.new ≡ length out.old }
     ensures before { (row : ℕ) → row < first → slice_index_or out.new row [] ≡ slice_index_or out.old row [] }
-    ensures idle { (row : ℕ) → first ≤ row → row < length out.new → slice_index_or out.new row [] ≡ replicate 30 idle_octet }
+    ensures idle { AreIdleFrom first out.new }
 {
     for row in first..out.len() {
         out[row] = IDLE_LINE;

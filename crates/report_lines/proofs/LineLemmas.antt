@@ -13,6 +13,10 @@ use Rattle.report_lines.specs.declared.lines.Extent.{Extent}
 use Rattle.report_lines.specs.Lines.{HandsLines, Line, calls_of, first_line, text_of}
 use Rattle.report_lines.specs.Entries.{AreAppended, AreBefore, AreMarked, AreUnchanged, BeginFrom, lines_in, lines_left, entry_of, octets_in, records_in}
 
+pub on_ok : {A E P Q : Type 0} (r : Result A E) → (P → Q) → OnOk r P → OnOk r Q
+on_ok (Ok a) f p = f p
+on_ok (Err e) f p = tt
+
 -- ---- sums over lines
 
 pub length-lines_in : (t : List ℕ) (r : List CallRecord) (ms : List LineEntry) → length (lines_in t r ms) ≡ length ms

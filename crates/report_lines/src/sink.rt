@@ -1,5 +1,5 @@
 //! The answer sink that stores lines, by its listing.
-ghost use Rattle.std.specs.Prelude.{◌≡◌, ◌≤◌, [], drop, length, map};
+ghost use Rattle.std.specs.Prelude.{◌≡◌, ◌≤◌, [], drop, length, map, take};
 ghost use Rattle.report_lines.specs.Lines.{calls_of, line_of, text_of};
 
 use crate::lines::Lines;
@@ -78,9 +78,12 @@ impl<L: ListingKind + Send + Drop> AnswerSink for LineSink<L> {
         response: Response,
         outbox: &Outbox,
         octets: &[[u8; 30]],
+        sounding: usize,
     ) -> Result<(), AllocError> {
+        // Idle rows have no text.
+        let rows = first_rows(octets, sounding);
         self.lines
-            .push(L::listing(), place, event, response, outbox, octets)
+            .push(L::listing(), place, event, response, outbox, rows)
     }
 
     fn len(&self) -> usize {
@@ -97,5 +100,16 @@ impl<L: ListingKind + Send + Drop> AnswerSink for LineSink<L> {
 
     fn move_before(&mut self, to: &mut Self, below: u32) -> Result<(), AllocError> {
         self.lines.move_before(&mut to.lines, below)
+    }
+}
+
+// Returns the first n rows, or all if there are fewer.
+fn first_rows(rows: &[[u8; 30]], count: usize) -> &[[u8; 30]]
+    ensures { result.now ≡ take count rows.now }
+{
+    if count < rows.len() {
+        &rows[..count]
+    } else {
+        rows
     }
 }

@@ -1,4 +1,4 @@
-use Rattle.std.proofs.Common.{rules, ◌≡◌, ◌+◌, ℕ, [], ◌∷◌, ◌++◌, length, refl, sym, ap, ◌∙◌, subst, arith, length-take-le}
+use Rattle.std.proofs.Common.{rules, ◌≡◌, ◌+◌, ℕ, ◌<◌, List, [], ◌∷◌, ◌++◌, length, slice_index_or, refl, sym, ap, ◌∙◌, subst, arith, length-take-le}
 use Rattle.circuit_model.specs.FrameInput.{Input}
 use Rattle.exchange_events.specs.Responses.{reply_of}
 use Rattle.seat_history.specs.Histories.{before}
@@ -125,3 +125,17 @@ returns-clause-next g c = λ only.
     let K = g.B.Switchboard.known in
     next_alone (turns_of (g.B.Switchboard.board c.args.cx.now.board.now)) (before c.handle_into-place.result.0 (K c.handle_into-place.new.seat).seen) c.args.event (K c.args.seat.now) (K c.handle_into-place.new.seat)
     c.handle_into-place.ensures.done.seat (c.handle_into-place.ensures.done.alone only.0 only.1) (c.handle_into-place.ensures.done.settled only.0)
+
+pub push-requires : goal.push-requires
+push-requires g c =
+    let size : length c.frame.new.out ≡ length c.args.machine.now.octets.items = search rules in
+    let room : c.args.machine.now.octets.len ≡ length c.args.machine.now.octets.items = search rules in
+    let kept : c.as_slice-octets.result.now ≡ c.frame.new.out =
+    c.as_slice-octets.ensures.value ∙ written_whole c.args.machine.now.octets.len c.frame.new.out c.args.machine.now.octets.items (room ∙ sym size) (sym size) in
+    record {
+      idle = λ row late inside.
+          let here : row < length c.frame.new.out = omega (arith, inside, ap length kept) in
+          let few : row < 18446744073709551615 = search rules in
+          ap (λ (rows : List (List ℕ)). slice_index_or rows row []) kept
+          ∙ c.frame.ensures.idle row (let said = c.sounding.ensures (omega (arith, late, few)) in omega (arith, said, late)) here;
+    }

@@ -8,8 +8,8 @@ use Rattle.tone_rules.specs.Tables.{table_of}
 use Rattle.frame_engine.specs.Playing.{played_as}
 use Rattle.frame_engine.proofs.play.play.Goals as goal
 
-pub returns : goal.returns
-returns c at inside near =
+pub returns-clause-plays : goal.returns-clause-plays
+returns-clause-plays c at inside near =
     let filled = c.fill_idle_from.ensures in
     let lines = c.playing_lines-lines.result in
     let first : c.from-2.result ≡ lines = search rules in
@@ -30,3 +30,8 @@ pub play_line-requires-clause-tones : goal.play_line-requires-clause-tones
 play_line-requires-clause-tones c place kind since near is =
     let line = c.loop-line.line in
     c.requires.tones (record { line = line; place = place }) (search rules) near kind since (sym (ap (λ (heard : List Heard). heard_on heard line place) c.heard_table-table.ensures.heard) ∙ is)
+
+pub returns-clause-idle : goal.returns-clause-idle
+returns-clause-idle c row late inside =
+    let first : c.from-2.result ≡ c.playing_lines-lines.result = search rules in
+    c.fill_idle_from.ensures.idle row (omega (arith, late, first)) inside

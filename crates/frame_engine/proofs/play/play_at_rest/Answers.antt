@@ -8,8 +8,8 @@ use Rattle.tone_rules.specs.Tables.{table_of, IsGiven}
 use Rattle.frame_engine.proofs.GivenTones.{plays_idle}
 use Rattle.frame_engine.proofs.play.play_at_rest.Goals as goal
 
-pub returns-then-gives_none : goal.returns-then-gives_none
-returns-then-gives_none c idle at inside near =
+pub returns-then-gives_none-clause-plays : goal.returns-then-gives_none-clause-plays
+returns-then-gives_none-clause-plays c idle at inside near =
     let filled = c.fill_idle_from.ensures in
     let m = c.args.image.now in
     let none : (kind : Kind) → IsGiven c.args.tones.now kind → ⊥ = c.gives_none.ensures.0 c.if-gives_none.true in

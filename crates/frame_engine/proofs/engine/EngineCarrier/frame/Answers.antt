@@ -33,17 +33,17 @@ at_boundary e s m b view external bridges frame next = record {
 
 -- ---- a frame in which octets move
 -- the engine and the control memory as they come
-abbrev engine_before : (g : Over) → goal.After-self-3-1 g → Stages
-engine_before g c = let w = c.self.inside in record { external = w.external; bridges = w.bridges; slots = w.slots; next = w.next; kept = w.kept; taken = w.speech.readable; crossed = w.crossed; read = w.read.readable; live = w.live }
+abbrev engine_before : (g : Over) → goal.After-self-4-1 g → Stages
+engine_before g c = let w = c.self.inside in record { external = w.external; bridges = w.bridges; slots = w.slots; next = w.next; kept = w.kept; taken = w.speech.readable; crossed = w.crossed; read = w.read.readable; live = w.live; sounding = w.sounding }
 
-abbrev image : (g : Over) → goal.After-self-3-1 g → Control
+abbrev image : (g : Over) → goal.After-self-4-1 g → Control
 image g c = c.args.image.now
 
 -- what is read out, what the incoming lines send, what crosses, and what is taken in
-abbrev octets_read : (g : Over) → goal.After-self-3-1 g → List ℕ
+abbrev octets_read : (g : Over) → goal.After-self-4-1 g → List ℕ
 octets_read g c = c.swap-2.new.self.readable
 
-sizes : (g : Over) (c : goal.After-self-3-1 g) → IsAt (engine_before g c) (image g c) (octets_read g c)
+sizes : (g : Over) (c : goal.After-self-4-1 g) → IsAt (engine_before g c) (image g c) (octets_read g c)
 sizes g c =
     let view = c.self.view_is in
     record {
@@ -59,7 +59,7 @@ sizes g c =
           ∙ c.outgoing_shared.ensures.octets at (let made = c.outgoing_shared.ensures.lines in let had = c.self.invariant.read_lines in omega (arith, inside, made, had)) near;
     }
 
-takes : (g : Over) (c : goal.After-self-3-1 g) → Takes (engine_before g c) (image g c) c.args.input.now (octets_read g c) c.swap-3.new.self.readable
+takes : (g : Over) (c : goal.After-self-4-1 g) → Takes (engine_before g c) (image g c) c.args.input.now (octets_read g c) c.swap-3.new.self.readable
 takes g c =
     let external = (sizes g c).external in
     let bridges = (sizes g c).bridges in
@@ -73,7 +73,7 @@ takes g c =
           ∙ c.mix_ports.ensures.ports k (omega (arith, near, bridges));
     }
 
-crosses : (g : Over) (c : goal.After-self-3-1 g) → Crosses (engine_before g c) (image g c) c.incoming_shared.new.highway c.cross_shared.new.crossed
+crosses : (g : Over) (c : goal.After-self-4-1 g) → Crosses (engine_before g c) (image g c) c.incoming_shared.new.highway c.cross_shared.new.crossed
 crosses g c = record {
   sends = λ line slot here near.
       c.incoming_shared.ensures.octets line slot
@@ -86,24 +86,24 @@ crosses g c = record {
       (let size = c.cross_shared.ensures.size.slots in let had = c.self.invariant.crossed_slots in omega (arith, near, size, had));
 }
 
-highway_sizes : (g : Over) (c : goal.After-self-3-1 g) → HasHighwaySizes (engine_before g c) c.cross_shared.new.crossed
+highway_sizes : (g : Over) (c : goal.After-self-4-1 g) → HasHighwaySizes (engine_before g c) c.cross_shared.new.crossed
 highway_sizes g c = record {
   lines = let size = c.cross_shared.ensures.size.lines in let had = c.self.invariant.crossed_lines in omega (arith, size, had);
   slots = let size = c.cross_shared.ensures.size.slots in let had = c.self.invariant.crossed_slots in omega (arith, size, had);
 }
 
-abbrev Next : (g : Over) → goal.After-self-3-1 g → Boundary → Type 0
+abbrev Next : (g : Over) → goal.After-self-4-1 g → Boundary → Type 0
 Next g c b = IsNext (λ inputs held ports. EngineCarries c.args.self.now inputs held ports) (image g c) b
 
-boundary : (g : Over) (c : goal.After-self-3-1 g) (b : Boundary) → Next g c b → AtBoundary (engine_before g c) (image g c) b
+boundary : (g : Over) (c : goal.After-self-4-1 g) (b : Boundary) → Next g c b → AtBoundary (engine_before g c) (image g c) b
 boundary g c b next = let is = sizes g c in at_boundary (engine_before g c) c.args.self.now (image g c) b c.self.view_is is.external is.bridges is.frame next
 
-holds : (g : Over) (c : goal.After-self-3-1 g) (b : Boundary) (next : Next g c b) → HoldsCrossing (c.self.inside.external + c.self.inside.bridges) c.self.inside.slots (boundary g c b next).shows.0 (octet_in_half c.self.inside.speech.readable) (octet_on c.cross_shared.new.crossed)
+holds : (g : Over) (c : goal.After-self-4-1 g) (b : Boundary) (next : Next g c b) → HoldsCrossing (c.self.inside.external + c.self.inside.bridges) c.self.inside.slots (boundary g c b next).shows.0 (octet_in_half c.self.inside.speech.readable) (octet_on c.cross_shared.new.crossed)
 holds g c b next =
     let is = boundary g c b next in
     holds_taken (engine_before g c) (image g c) (octets_read g c) (sizes g c) b.inputs b.held b.ports c.args.input.now b.circuits b.seats is.carries is.shows.0 is.shows.1 is.come c.incoming_shared.new.highway c.cross_shared.new.crossed (crosses g c)
 
-fades : (g : Over) (c : goal.After-self-3-1 g) (b : Boundary) → Next g c b → Fades (record (engine_before g c) { next = c.self.inside.next + 1; kept = image g c; taken = c.swap-3.new.self.readable; crossed = c.cross_shared.new.crossed; read = octets_read g c; live = c.in-Some.live })
+fades : (g : Over) (c : goal.After-self-4-1 g) (b : Boundary) → Next g c b → Fades (record (engine_before g c) { next = c.self.inside.next + 1; kept = image g c; taken = c.swap-3.new.self.readable; crossed = c.cross_shared.new.crossed; read = octets_read g c; live = c.in-Some.live; sounding = c.play-self-inside.result })
 fades g c b next =
     let is = boundary g c b next in
     let lives : FadesTo c.self.inside.live c.in-Some.live (image g c) c.args.input.now = c.in-Some.ensures.lives in
@@ -122,7 +122,7 @@ pub returns-clause-plays : goal.returns-clause-plays
 returns-clause-plays g c b next at line place =
     let is = boundary g c b next in
     let here : at.line < (engine_before g c).external = let external = (sizes g c).external in omega (arith, line, external) in
-    c.play.ensures at line place
+    c.play-self-inside.ensures.plays at line place
     ∙ played_as-hears (engine_before g c) (image g c) (octets_read g c) (sizes g c) b.inputs b.held b.ports c.args.input.now b.circuits b.seats is.carries is.shows.0 is.shows.1 is.come (table_of c.args.tones.now) at here place
     ∙ sym (ap (λ f. hears (table_of c.args.tones.now) (inputs_with b c.args.input.now) (held_with b) f at) (sizes g c).frame)
 
@@ -130,14 +130,14 @@ pub returns-clause-carries : goal.returns-clause-carries
 returns-clause-carries g c b next =
     let is = boundary g c b next in
     let on = carries_on (engine_before g c) (image g c) (octets_read g c) (sizes g c) b.inputs b.held b.ports c.args.input.now b.circuits b.seats is.carries is.shows.0 is.shows.1 is.come
-    c.swap-3.new.self.readable c.cross_shared.new.crossed c.in-Some.live (takes g c) (holds g c b next) (highway_sizes g c) (fades g c b next) in
-    subst (λ (m : Control). EngineCarries (record (engine_before g c) { next = c.self.inside.next + 1; kept = m; taken = c.swap-3.new.self.readable; crossed = c.cross_shared.new.crossed; read = octets_read g c; live = c.in-Some.live }) (inputs_with b c.args.input.now) (held_with b) (ports_with b)) (sym c.swap-4.ensures.x_after) on
+    c.swap-3.new.self.readable c.cross_shared.new.crossed c.in-Some.live c.play-self-inside.result (takes g c) (holds g c b next) (highway_sizes g c) (fades g c b next) in
+    subst (λ (m : Control). EngineCarries (record (engine_before g c) { next = c.self.inside.next + 1; kept = m; taken = c.swap-3.new.self.readable; crossed = c.cross_shared.new.crossed; read = octets_read g c; live = c.in-Some.live; sounding = c.play-self-inside.result }) (inputs_with b c.args.input.now) (held_with b) (ports_with b)) (sym c.swap-4.ensures.x_after) on
 
 -- ---- a frame in which the engine rests
-abbrev resting : (g : Over) → goal.After-self-1 g → Stages
-resting g c = let w = c.self.inside in record { external = w.external; bridges = w.bridges; slots = w.slots; next = w.next; kept = w.kept; taken = w.speech.readable; crossed = w.crossed; read = w.read.readable; live = w.live }
+abbrev resting : (g : Over) → goal.After-self-in_default-1 g → Stages
+resting g c = let w = c.self.inside in record { external = w.external; bridges = w.bridges; slots = w.slots; next = w.next; kept = w.kept; taken = w.speech.readable; crossed = w.crossed; read = w.read.readable; live = w.live; sounding = w.sounding }
 
-record Rests (g : Over) (c : goal.After-self-1 g) (b : Boundary) : Type 0 where
+record Rests (g : Over) (c : goal.After-self-in_default-1 g) (b : Boundary) : Type 0 where
   boundary : AtBoundary (resting g c) c.args.image.now b
   quiet : (c.self.inside.live ≡ 0) × IsQuiet c.args.image.now c.args.input.now
   taken : AllIdle (c.self.inside.external + c.self.inside.bridges) c.self.inside.speech.readable
@@ -145,10 +145,10 @@ record Rests (g : Over) (c : goal.After-self-1 g) (b : Boundary) : Type 0 where
   read : AllIdle (c.self.inside.external + c.self.inside.bridges) c.self.inside.read.readable
   is : IsAt (resting g c) c.args.image.now c.self.inside.read.readable
 
-abbrev Next_at_rest : (g : Over) → goal.After-self-1 g → Boundary → Type 0
+abbrev Next_at_rest : (g : Over) → goal.After-self-in_default-1 g → Boundary → Type 0
 Next_at_rest g c b = IsNext (λ inputs held ports. EngineCarries c.args.self.now inputs held ports) c.args.image.now b
 
-rests : (g : Over) (c : goal.After-self-1 g) (b : Boundary) → Next_at_rest g c b → Rests g c b
+rests : (g : Over) (c : goal.After-self-in_default-1 g) (b : Boundary) → Next_at_rest g c b → Rests g c b
 rests g c b next =
     let view = c.self.view_is in
     let external : c.args.image.now.external ≡ c.self.inside.external = c.requires.sizes.external ∙ sym (ap (λ (s : Stages). s.external) view) in
@@ -182,7 +182,7 @@ returns-in_default-clause-plays g c b next at line place =
     let r = rests g c b next in
     let external = r.is.external in
     let bridges = r.is.bridges in
-    c.play_at_rest.ensures (λ x here near. r.read x (omega (arith, here, external, bridges)) near) at line place
+    c.play_at_rest-self-inside.ensures.plays (λ x here near. r.read x (omega (arith, here, external, bridges)) near) at line place
     ∙ played_as-hears (resting g c) c.args.image.now c.self.inside.read.readable r.is b.inputs b.held b.ports c.args.input.now b.circuits b.seats r.boundary.carries r.boundary.shows.0 r.boundary.shows.1 r.boundary.come
     (table_of c.args.tones.now) at (omega (arith, line, external)) place
     ∙ sym (ap (λ f. hears (table_of c.args.tones.now) (inputs_with b c.args.input.now) (held_with b) f at) r.is.frame)
@@ -204,10 +204,10 @@ returns-in_default-clause-carries g c b next =
     let across = holds_idle (resting g c) c.args.image.now c.self.inside.read.readable r.is b.inputs b.held b.ports c.args.input.now b.circuits b.seats r.boundary.carries r.boundary.shows.0 r.boundary.shows.1 r.boundary.come
     c.self.inside.crossed r.taken r.crossed in
     let on = carries_on (resting g c) c.args.image.now c.self.inside.read.readable r.is b.inputs b.held b.ports c.args.input.now b.circuits b.seats r.boundary.carries r.boundary.shows.0 r.boundary.shows.1 r.boundary.come
-    c.self.inside.speech.readable c.self.inside.crossed c.self.inside.live stores across
+    c.self.inside.speech.readable c.self.inside.crossed c.self.inside.live c.play_at_rest-self-inside.result stores across
     (record { lines = r.boundary.carries.sizes.crossed_lines; slots = r.boundary.carries.sizes.crossed_slots })
     (record { taken = λ few. r.taken; crossed = λ few. r.crossed; read = λ still. r.read }) in
-    subst (λ (m : Control). EngineCarries (record (resting g c) { next = c.self.inside.next + 1; kept = m }) (inputs_with b c.args.input.now) (held_with b) (ports_with b)) (sym c.swap.ensures.x_after) on
+    subst (λ (m : Control). EngineCarries (record (resting g c) { next = c.self.inside.next + 1; kept = m; sounding = c.play_at_rest-self-inside.result }) (inputs_with b c.args.input.now) (held_with b) (ports_with b)) (sym c.swap.ensures.x_after) on
 
 -- ---- the threads
 pub outgoing_shared-requires-sync-R : goal.outgoing_shared-requires-sync-R
