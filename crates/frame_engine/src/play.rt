@@ -1,18 +1,17 @@
 //! The octet that each external slot sends in a frame: of its path, of its tone, or idle.
 
-ghost use Rattle.std.specs.Prelude.{if◌then◌else◌, ◌≡◌, ◌↔◌, ℕ, IsTrue, ◌+◌, ◌*◌, ◌<◌, ◌≤◌, [], length, replicate, slice_index, slice_index_or};
+ghost use Rattle.std.specs.Prelude.{if◌then◌else◌, ◌≡◌, ℕ, ◌+◌, ◌*◌, ◌<◌, ◌≤◌, [], length, replicate, slice_index, slice_index_or};
 ghost use Rattle.circuit_model.specs.declared.channel.Slot.{Slot};
-ghost use Rattle.circuit_model.specs.declared.circuit.Kind.{Kind};
 ghost use Rattle.circuit_model.specs.FrameInput.{idle_octet};
 ghost use Rattle.frame_buffer.specs.Speech.{octet_in_half};
 ghost use Rattle.control_memory.specs.HeardRows.{HasToneBits};
 ghost use Rattle.control_memory.specs.Image.{lines_of, heard_at};
-ghost use Rattle.tone_rules.specs.Tables.{table_of, IsGiven};
+ghost use Rattle.tone_rules.specs.Tables.{table_of};
 ghost use Rattle.frame_engine.specs.Frames.{AreIdleFrom, PlaysOut, TonesGiven};
 ghost use Rattle.frame_engine.specs.Playing.{AreGiven, AreGivenOn, EachPlace, HasLine, by_path, played_as, played_at, played_on, with_tone};
 ghost use Rattle.frame_engine.specs.Resting.{PlaysAtRest};
 
-use circuit_model::{IDLE, Kind};
+use circuit_model::IDLE;
 use control_memory::{Heard, HeardTable, HeardWord, Image};
 use frame_buffer::FrameBuffer;
 use tone_rules::{Tones, tone_octet};
@@ -55,7 +54,7 @@ pub(crate) fn play_at_rest(
     ensures plays { PlaysAtRest tones.now image.now read.now.readable out.new }
     ensures idle { AreIdleFrom result out.new }
 {
-    if gives_none(tones) {
+    if tones.is_empty() {
         fill_idle_from(out, 0);
         0
     } else {
@@ -125,13 +124,6 @@ fn play_heard(
     if places != 0 {
         play_tones(heard, places, tones, frame, octets);
     }
-}
-
-// Returns whether no tone is given.
-fn gives_none(tones: &Tones) -> bool
-    ensures { IsTrue result ↔ ((kind : Kind) → ¬ IsGiven tones.now kind) }
-{
-    !tones.is_given(Kind::Ringback) && !tones.is_given(Kind::Busy)
 }
 
 // Writes the octets that a line sends by its paths. The row is made apart from `octets`, so that the loop compiles to

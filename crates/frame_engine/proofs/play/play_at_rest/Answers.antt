@@ -8,11 +8,11 @@ use Rattle.tone_rules.specs.Tables.{table_of, IsGiven}
 use Rattle.frame_engine.proofs.GivenTones.{plays_idle}
 use Rattle.frame_engine.proofs.play.play_at_rest.Goals as goal
 
-pub returns-then-gives_none-clause-plays : goal.returns-then-gives_none-clause-plays
-returns-then-gives_none-clause-plays c idle at inside near =
+pub returns-then-is_empty-clause-plays : goal.returns-then-is_empty-clause-plays
+returns-then-is_empty-clause-plays c idle at inside near =
     let filled = c.fill_idle_from.ensures in
     let m = c.args.image.now in
-    let none : (kind : Kind) → IsGiven c.args.tones.now kind → ⊥ = c.gives_none.ensures.0 c.if-gives_none.true in
+    let none : (kind : Kind) → IsGiven c.args.tones.now kind → ⊥ = c.is_empty.ensures.0 c.if-is_empty.true in
     let many : at.line < length c.fill_idle_from.new.out = search rules in
     ap (λ (row : List ℕ). slice_index row at.place) (filled.idle at.line (omega arith) many)
     ∙ get_or-replicate 30 at.place idle_octet 0 near
