@@ -1,3 +1,4 @@
+pub mod BoundFacts
 pub mod Side
 pub mod OrderFacts
 pub mod Looks

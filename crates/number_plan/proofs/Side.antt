@@ -21,10 +21,10 @@ same x y e = rw (le-ltb x y (omega arith), eq-eqb x y e) refl
 higher : (x y : ℕ) → y < x → nat_cmp x y ≡ Greater
 higher x y lt = rw (le-ltb x y (omega arith), ne_eqb x y (λ e. absurd (omega arith))) refl
 
-side_by_side_first_lower : (x y : ℕ) (m n : List ℕ) → x < y → side_by_side (x ∷ m) (y ∷ n) ≡ Less
+pub side_by_side_first_lower : (x y : ℕ) (m n : List ℕ) → x < y → side_by_side (x ∷ m) (y ∷ n) ≡ Less
 side_by_side_first_lower x y m n lt = ap (λ o. ordering_then o (side_by_side m n)) (lower x y lt)
 
-side_by_side_first_same : (x y : ℕ) (m n : List ℕ) → x ≡ y → side_by_side (x ∷ m) (y ∷ n) ≡ side_by_side m n
+pub side_by_side_first_same : (x y : ℕ) (m n : List ℕ) → x ≡ y → side_by_side (x ∷ m) (y ∷ n) ≡ side_by_side m n
 side_by_side_first_same x y m n e = ap (λ o. ordering_then o (side_by_side m n)) (same x y e)
 
 side_by_side_first_higher : (x y : ℕ) (m n : List ℕ) → y < x → side_by_side (x ∷ m) (y ∷ n) ≡ Greater

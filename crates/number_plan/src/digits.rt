@@ -13,14 +13,18 @@ pub const MAX_DIGITS: usize = 20;
 #[derive(Debug, Drop)]
 pub struct Digits {
     octets: ArrayVec<u8, MAX_DIGITS>,
+    bounds: Bounds,
 }
 
 impl Model for Digits {
     ghost use Rattle.std.specs.Prelude.{ℕ, List};
+    ghost use Rattle.number_plan.specs.Bounds.{AreBounds};
 
     ghost Value = { List ℕ };
 
     ghost view = { λ d. d.octets.items };
+
+    ghost invariant = { λ d. AreBounds d.octets.items d.bounds };
 }
 
 impl Digits {
@@ -35,7 +39,8 @@ impl Digits {
         if octets.try_extend_from_slice(digits).is_err() {
             unreachable!();
         }
-        Digits { octets }
+        let bounds = bounds_of(octets.as_slice());
+        Digits { octets, bounds }
     }
 
     /// Returns the digits in order.
@@ -61,9 +66,10 @@ impl<'a> IntoIterator for &'a Digits {
     }
 }
 
-ghost use Rattle.std.specs.Prelude.{◌≡◌};
+ghost use Rattle.std.specs.Prelude.{◌≡◌, ◌+◌, ◌*◌, ◌^◌, ◌<◌, ◌≤◌, get_or};
 ghost use Rattle.std.specs.List.{list_all};
 ghost use Rattle.std.specs.Char.{is_ascii_digit};
+ghost use Rattle.number_plan.specs.Bounds.{AreBounds, leading};
 ghost use Rattle.number_plan.specs.Plan.{is_number, side_by_side};
 
 /// Returns whether these are 1 to 20 digits `0` to `9`, which a number of a plan has.
@@ -79,9 +85,91 @@ fn are_decimal(digits: &[u8]) -> bool
     digits.iter().all(|digit| digit.is_ascii_digit())
 }
 
+// The number of octets that are compared as one word.
+const LEADING_OCTETS: usize = 8;
+
+// The least and the greatest word of the first octets of the strings that begin with some octets.
+#[derive(Clone, Copy, Debug)]
+pub(crate) struct Bounds {
+    least: u64,
+    greatest: u64,
+}
+
+// Returns the bounds of the strings that begin with these octets.
+pub(crate) fn bounds_of(octets: &[u8]) -> Bounds
+    ensures { AreBounds octets.now result }
+{
+    let mut bounds = Bounds {
+        least: 0,
+        greatest: 0,
+    };
+    for place in 0..LEADING_OCTETS {
+        bounds = with_octet(bounds, octets, place);
+    }
+    bounds
+}
+
+// Returns the bounds of one octet more than those before this place.
+#[inline(always)]
+fn with_octet(bounds: Bounds, octets: &[u8], place: usize) -> Bounds
+    requires place { place < 8 }
+    requires least { bounds.least ≡ leading 0 place octets.now }
+    requires greatest { bounds.greatest ≡ leading 255 place octets.now }
+    ensures least { result.least ≡ leading 0 (place + 1) octets.now }
+    ensures greatest { result.greatest ≡ leading 255 (place + 1) octets.now }
+{
+    let low = octet_at(octets, place, 0);
+    let least = followed_by(bounds.least, low);
+    let high = octet_at(octets, place, 255);
+    let greatest = followed_by(bounds.greatest, high);
+    Bounds { least, greatest }
+}
+
+// Returns the number that has one octet more at its end.
+#[inline(always)]
+fn followed_by(number: u64, octet: u8) -> u64
+    requires { number * 256 + 256 ≤ 2 ^ 64 }
+    ensures { result ≡ number * 256 + octet }
+{
+    number * 256 + u64::from(octet)
+}
+
+// Returns the octet at a place, or another octet if there is none.
+#[inline(always)]
+fn octet_at(octets: &[u8], place: usize, other: u8) -> u8
+    ensures { result ≡ get_or octets.now place other }
+{
+    if place < octets.len() {
+        octets[place]
+    } else {
+        other
+    }
+}
+
+// Compares a number with digits by the first place in which they differ, as `side_by_side` does. Most numbers differ
+// from the digits in the first eight octets, so that their words decide.
+#[inline(always)]
+pub(crate) fn compare(number: &Digits, digits: &[u8], bounds: Bounds) -> Ordering
+    requires { AreBounds digits.now bounds }
+    ensures { result ≡ side_by_side number.now digits.now }
+{
+    if number.bounds.greatest < bounds.least {
+        return Ordering::Less;
+    }
+    if bounds.greatest < number.bounds.least {
+        return Ordering::Greater;
+    }
+    let common = number.octets.len().min(digits.len());
+    if common <= LEADING_OCTETS {
+        return Ordering::Equal;
+    }
+    side_by_side(number.as_slice(), digits)
+}
+
 // Compares two strings of digits by the first place in which they differ. The result is `Equal` if one is a prefix of
 // the other.
-pub(crate) fn side_by_side(one: &[u8], other: &[u8]) -> Ordering
+#[inline(never)]
+fn side_by_side(one: &[u8], other: &[u8]) -> Ordering
     ensures { result ≡ side_by_side one.now other.now }
 {
     let common = one.len().min(other.len());

@@ -1,6 +1,6 @@
 //! The plan of numbers, in the order of their digits.
 
-use crate::digits::{Digits, side_by_side};
+use crate::digits::{Digits, bounds_of, compare};
 use crate::target::{Found, Target};
 use std::alloc::{AllocError, Global};
 use std::cmp::Ordering;
@@ -65,6 +65,7 @@ impl Model for Plan {
 impl Plan {
     ghost use Rattle.std.specs.Prelude.{◌≡◌, ◌↔◌, ◌<◌, ◌≤◌, ℕ, List, [], true, false, IsTrue, length, OnOk, OnErr, IfOk, IfErr, IsErrOf};
     ghost use Rattle.number_plan.specs.Plan.{side_by_side, in_order, with_number, found_for, is_number_taken, is_number, AreApart, LeadsTo, IsUnfinishedNumber, IsUnknown};
+    ghost use Rattle.number_plan.specs.Bounds.{AreBounds};
     ghost use Rattle.number_plan.specs.Search.{IsBesideAt, IsPlaceFor};
 
     /// Returns an empty plan.
@@ -144,10 +145,12 @@ impl Plan {
         ensures apart { AreApart self.now }
         ensures few { length self.now ≤ 256 }
     {
+        let bounds = bounds_of(digits);
         self.numbers.binary_search_by(
             |number: &Number| -> Ordering
+                requires { AreBounds digits.now bounds }
                 ensures { result ≡ side_by_side number.now.digits digits.entry.now }
-            { side_by_side(number.digits.as_slice(), digits) },
+            { compare(&number.digits, digits, bounds) },
         )
     }
 
