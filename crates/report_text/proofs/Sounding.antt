@@ -1,5 +1,5 @@
 -- Idle rows at the end of the rows of a frame add nothing to its line.
-use Rattle.std.proofs.Common.{◌≡◌, ℕ, zero, suc, ◌+◌, ◌≤◌, ◌<◌, codes, decimal, List, [], ◌∷◌, ◌++◌, length, take, get_or, get_or-drop, replicate, slice_index_or, arith, ap, refl, sym, ◌∙◌}
+use Rattle.std.proofs.Common.{◌≡◌, ℕ, zero, suc, ◌+◌, ◌≤◌, ◌<◌, codes, decimal, List, [], ◌∷◌, ◌++◌, length, take, get_or, get_or-drop, get_or-take, replicate, slice_index_or, arith, ap, refl, subst, sym, ◌∙◌}
 use Rattle.circuit_model.specs.FrameInput.{idle_octet}
 use Rattle.exchange_events.specs.declared.answer.Kept.{Kept}
 use Rattle.exchange_events.specs.declared.answer.Kept.TheVariants.{Granted, Busy, Seated, NoPort, Freed, NotNailed, Sent, Frame}
@@ -29,6 +29,21 @@ parts_sounding line (suc n) [] idle = refl
 parts_sounding line (suc n) (row ∷ rest) idle =
     ap (λ more. part line row ++ more) (parts_sounding (line + 1) n rest (rest_idle row rest n (λ k late inside. idle k (omega (arith, late)) inside)))
 
+-- a place in the first rows is one in all rows
+taken_inside : (n : ℕ) (rows : List (List ℕ)) (line : ℕ) → line < length (take n rows) → (line < n) × (line < length rows)
+taken_inside zero rows line inside = absurd (omega (arith, inside))
+taken_inside (suc n) [] line inside = absurd (omega (arith, inside))
+taken_inside (suc n) (row ∷ rest) zero inside = (omega arith, omega arith)
+taken_inside (suc n) (row ∷ rest) (suc line) inside =
+    let more = taken_inside n rest line (omega (arith, inside)) in (omega (arith, more.0), omega (arith, more.1))
+
+-- the first rows have 30 octets each if all rows do
+thirty_of_taken : (n : ℕ) (rows few : List (List ℕ)) → few ≡ take n rows → ((line : ℕ) → line < length rows → length (get_or rows line []) ≡ 30)
+    → (line : ℕ) → line < length few → length (get_or few line []) ≡ 30
+thirty_of_taken n rows few is thirty line inside =
+    let both = taken_inside n rows line (subst (λ (xs : List (List ℕ)). line < length xs) is inside) in
+    ap (λ (xs : List (List ℕ)). length (get_or xs line [])) is ∙ ap length (get_or-take n rows line [] both.0) ∙ thirty line both.1
+
 -- rows with the same parts give an event the same line
 pub report_same : (rows others : List (List ℕ)) (n : ℕ) (k : Kept) → parts 0 rows ≡ parts 0 others → report_line rows n k ≡ report_line others n k
 report_same rows others n (Granted a b) same = refl
@@ -42,9 +57,9 @@ report_same rows others n (Frame k sends records) same = ap (λ (text : List ℕ
 
 -- the rows before the idle ones give an event the same line as all rows
 pub line_sounding : (rows few : List (List ℕ)) (first n : ℕ) (k : Kept) → ((line : ℕ) → line < length rows → length (get_or rows line []) ≡ 30)
-    → ((line : ℕ) → line < length few → length (get_or few line []) ≡ 30) → few ≡ take first rows → IdleFrom first rows
+    → few ≡ take first rows → IdleFrom first rows
     → report_line (lines_sent (octet_of few) (length few)) n k ≡ report_line (lines_sent (octet_of rows) (length rows)) n k
-line_sounding rows few first n k thirty also is idle =
-    ap (λ sent. report_line sent n k) (lines_sent_rows few also ∙ is)
+line_sounding rows few first n k thirty is idle =
+    ap (λ sent. report_line sent n k) (lines_sent_rows few (thirty_of_taken first rows few is thirty) ∙ is)
     ∙ report_same (take first rows) rows n k (parts_sounding 0 first rows idle)
     ∙ sym (ap (λ sent. report_line sent n k) (lines_sent_rows rows thirty))

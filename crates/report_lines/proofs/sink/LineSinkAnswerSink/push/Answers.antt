@@ -18,11 +18,11 @@ returns-clause-kept g c =
     let rows : List (List ℕ) = c.args.octets.now in
     let few : List (List ℕ) = c.first_rows-rows.result.now in
     let p : Placed = placed c.args.place c.args.event c.args.response c.args.outbox.now rows in
-    let same = line_sounding rows few c.args.sounding c.args.event kept (λ line inside. search rules) (λ line inside. search rules) c.first_rows-rows.ensures c.requires.idle in
+    let same = line_sounding rows few c.args.sounding c.args.event kept (λ line inside. search rules) c.first_rows-rows.ensures c.requires.idle in
     let one : line_of c.listing.result (placed c.args.place c.args.event c.args.response c.args.outbox.now few) ≡ line_of l p =
     ap (λ (x : Listing). line_of x (placed c.args.place c.args.event c.args.response c.args.outbox.now few)) c.listing.ensures
     ∙ ap (λ (text : List ℕ). record { place = c.args.place; text = listed l text; records = calls_kept kept }) same in
     on_ok c.push.result (λ line answers held.
-        line
-        ∙ (λ i. (c.self.view_is ∙ held) i ++ one i ∷ [])
-        ∙ sym (map-append (line_of l) answers (p ∷ []))) c.push.ensures.line
+    line
+    ∙ (λ i. (c.self.view_is ∙ held) i ++ one i ∷ [])
+    ∙ sym (map-append (line_of l) answers (p ∷ []))) c.push.ensures.line
