@@ -153,9 +153,15 @@ class Mutations(InFolder):
         checks = SCRIPT.checks_of(KIT, mutations)
         return sorted(sorted(" ".join(mutation.name for mutation in copy.mutations) for copy in check) for check in checks)
 
+    def assert_judged(self, judge: Any, rows: Sequence[tuple[str, str, str, bool]]) -> None:
+        """What a function of the script says of changes of the source: a function's name, the old and the new text, and the answer."""
+        for function, old, new, wanted in rows:
+            with self.subTest(function=function, old=old):
+                self.assertEqual(judge(SOURCE, SOURCE.replace(old, new), function), wanted)
+
     def test_bodies(self) -> None:
         """A change of a body, but not of a clause, of a comment between functions, or of another function's body."""
-        for function, old, new, wanted in (
+        rows = (
             ("more", "    x + 1", "    x", True),
             ("more", "x < 9", "x < 8", False),
             ("more", "Adds one", "Adds two", False),
@@ -166,23 +172,21 @@ class Mutations(InFolder):
             ("count", "        7\n", "        // Seven.\n        7\n", True),
             ("count", "result ≡ 7", "result ≡ 8", False),
             ("none", "        7\n", "        8\n", False),
-        ):
-            with self.subTest(function=function, old=old):
-                self.assertEqual(SCRIPT.is_in_body(SOURCE, SOURCE.replace(old, new), function), wanted)
+        )
+        self.assert_judged(SCRIPT.is_in_body, rows)
         self.assertFalse(SCRIPT.is_in_body(f"#[cycle(a)]\n{SOURCE}", f"#[cycle(a)]\n{SOURCE}".replace("x < y", "x > y"), "most"))
 
     def test_theorems(self) -> None:
         """A change of a clause of a theorem, also with its imports, but not of another function."""
-        for function, old, new, wanted in (
+        rows = (
             ("law", "9 ≡ 10", "9 ≡ 11", True),
             ("law", "ghost use A.{x};\n", "ghost use A.{x, y};\n", False),
             ("law", "Nine is", "Ten is", False),
             ("law", "x < y", "x > y", False),
             ("more", "x < 9", "x < 8", False),
             ("count", "result ≡ 7", "result ≡ 8", False),
-        ):
-            with self.subTest(function=function, old=old):
-                self.assertEqual(SCRIPT.is_in_theorem(SOURCE, SOURCE.replace(old, new), function), wanted)
+        )
+        self.assert_judged(SCRIPT.is_in_theorem, rows)
         self.assertTrue(SCRIPT.is_in_theorem(SOURCE, SOURCE.replace("{x}", "{x, y}").replace("9 ≡ 10", "9 ≡ y"), "law"))
 
     def test_theorem_that_is_called(self) -> None:
